@@ -1,0 +1,110 @@
+-- The laws of the signed quotient that is rounded toward the greater number, and what the machine's division and remainder say of it.
+-- Assumes nothing.
+use mathlib.Core.Path.{_≡_, refl, sym, ap, _∙_, subst}
+use mathlib.Core.Bool.{Bool, true, false, not, cond}
+use Prim.Native.Nat.{ℕ, zero, suc, _+_, _-_, _*_, _/_, _%_, _≤_, _<_}
+use native.Mathlib.Nat.{div-add-mod', div-le-self, le-mul-of-pos-right, mod-lt, mul-pos, zero-mul, lt-irrefl}
+use native.Mathlib.Omega.{arith}
+use lib.Dec.{T, leb, ltb, leb→le, le→leb, ltb→lt, lt→ltb, nltb→le}
+use lib.IntN.{ℤ, pos, negsuc, negℤ, natAbs, subℕ, _+ℤ_, _*ℤ_}
+use lib.Signed.{mag, leZ, ltZ, quotZ, remZ, _≤ℤ_, _<ℤ_, leZ-yes, ltZ-yes}
+use mir.Syntax.{Width}
+use mir.Val.{SFits}
+use mir.ValLaws.{sfits-le}
+use borrow.Author.Tests.{ltb-true, ltb-false}
+use Rattle.exact.specs.Quotient.{downOf, upOf, upℤ, Ratioℤ, AtLeastℤ}
+use Rattle.exact.proofs.QuotientLaws.{up-safe, up-near, up-least, up-unique, down-safe, down-near, down-greatest}
+
+-- ---- a negated whole number
+
+neg-size : (r a : ℕ) → r ≤ suc a → mag (negℤ (pos r)) ≤ a
+neg-size zero a h = omega arith
+neg-size (suc r) a h = omega arith
+
+neg-times : (q d : ℕ) → negℤ (pos q) *ℤ pos d ≡ negℤ (pos (q * d))
+neg-times zero d = rw zero-mul
+neg-times (suc k) d = refl
+
+neg-ge : (m n : ℕ) → m ≤ suc n → T (leZ (negsuc n) (negℤ (pos m)))
+neg-ge zero n h = tt
+neg-ge (suc k) n h = le→leb k n (omega arith)
+
+neg-ge-back : (m n : ℕ) → T (leZ (negsuc n) (negℤ (pos m))) → m ≤ suc n
+neg-ge-back zero n t = omega arith
+neg-ge-back (suc k) n t = omega (arith, leb→le k n t)
+
+neg-le-pos : (q m : ℕ) → T (leZ (negℤ (pos q)) (pos m))
+neg-le-pos zero m = le→leb 0 m (omega arith)
+neg-le-pos (suc k) m = tt
+
+neg-le-neg : (q m : ℕ) → suc m ≤ q → T (leZ (negℤ (pos q)) (negsuc m))
+neg-le-neg zero m h = absurd (lt-irrefl 0 (omega arith))
+neg-le-neg (suc k) m h = le→leb m k (omega arith)
+
+not-below-neg : (x n : ℕ) → 0 < x → T (leZ (pos n) (negℤ (pos x))) → ⊥
+not-below-neg zero n p t = lt-irrefl 0 p
+not-below-neg (suc x) n p t = t
+
+neg-below : (m d n : ℕ) → suc n < m + d → T (ltZ (negℤ (pos m)) (subℕ d (suc n)))
+neg-below m d n h = go m (ltb d (suc n)) h (ltb→lt d (suc n)) (nltb→le d (suc n))
+  where
+    go : (m : ℕ) (b : Bool) → suc n < m + d → (T b → d < suc n) → (T (not b) → suc n ≤ d)
+        → T (ltZ (negℤ (pos m)) (cond b (negsuc (suc n - suc d)) (pos (d - suc n))))
+    go zero true l y f = absurd (lt-irrefl 0 (omega (arith, y tt)))
+    go (suc k) true l y f = lt→ltb (suc n - suc d) k (omega (arith, y tt))
+    go zero false l y f = lt→ltb 0 (d - suc n) (omega (arith, f tt))
+    go (suc k) false l y f = tt
+
+-- ---- the laws
+
+module _ (d : ℕ) (p : 0 < d) where
+  pub upℤ-safe : (z : ℤ) → z ≤ℤ (upℤ z d *ℤ pos d)
+  unfolding upℤ
+  upℤ-safe (pos n) = leZ-yes (le→leb n (upOf n d * d) (up-safe n d p))
+  upℤ-safe (negsuc n) = leZ-yes (rw neg-times (neg-ge (downOf (suc n) d * d) n (down-safe (suc n) d p)))
+
+  pub upℤ-near : (z : ℤ) → (upℤ z d *ℤ pos d) <ℤ (z +ℤ pos d)
+  unfolding upℤ
+  upℤ-near (pos n) = ltZ-yes (lt→ltb (upOf n d * d) (n + d) (up-near n d p))
+  upℤ-near (negsuc n) = ltZ-yes (rw neg-times (neg-below (downOf (suc n) d * d) d n (down-near (suc n) d p)))
+
+  pub upℤ-least : (z k : ℤ) → z ≤ℤ (k *ℤ pos d) → upℤ z d ≤ℤ k
+  unfolding upℤ
+  upℤ-least (pos n) (pos m) h = leZ-yes (le→leb (upOf n d) m (up-least n d p m (leb→le n (m * d) (h .le))))
+  upℤ-least (pos n) (negsuc m) h = absurd (not-below-neg (suc m * d) n (mul-pos (omega arith) p) (h .le))
+  upℤ-least (negsuc n) (pos m) h = leZ-yes (neg-le-pos (downOf (suc n) d) m)
+  upℤ-least (negsuc n) (negsuc m) h =
+      leZ-yes (neg-le-neg (downOf (suc n) d) m (down-greatest (suc n) d p (suc m) (neg-ge-back (suc m * d) n (h .le))))
+
+-- the same of a fraction: a margin of one, den / den
+pub rounded-upℤ : (f : Ratioℤ) → 0 < f .den → AtLeastℤ f (f .den) (upℤ (f .num) (f .den))
+rounded-upℤ f p = record { safe = upℤ-safe (f .den) p (f .num); near = upℤ-near (f .den) p (f .num) }
+
+-- ---- the machine's division cuts toward zero
+
+pub quot-fits : {w : Width} (z : ℤ) (d : ℕ) → SFits w z → SFits w (quotZ z (pos d))
+quot-fits (pos a) d f = sfits-le (div-le-self a d) f
+quot-fits (negsuc a) d f = sfits-le (neg-size (suc a / d) a (div-le-self (suc a) d)) f
+
+neg-not-above : (r : ℕ) → ltZ (pos 0) (negℤ (pos r)) ≡ false
+neg-not-above zero = refl
+neg-not-above (suc r) = refl
+
+module _ (d : ℕ) (p : 0 < d) where
+  -- a remainder above 0: the quotient was cut, and one more fits
+  pub cut-up : (z : ℤ) → ltZ (pos 0) (remZ z (pos d)) ≡ true → quotZ z (pos d) +ℤ pos 1 ≡ upℤ z d
+  unfolding upℤ
+  cut-up (pos a) t =
+      ap pos (up-unique a d p (a / d + 1) (omega (arith, div-add-mod' a d, mod-lt a p)) (omega (arith, div-add-mod' a d, ltb-true 0 (a % d) t)))
+  cut-up (negsuc a) t = let z : _≡_ {A = Bool} true false = sym t ∙ neg-not-above (suc a % d) in absurd (subst T z tt)
+
+  pub cut-fits : {w : Width} (z : ℤ) → ltZ (pos 0) (remZ z (pos d)) ≡ true → SFits w z → SFits w (quotZ z (pos d) +ℤ pos 1)
+  cut-fits (pos a) t f = sfits-le (omega (arith, div-add-mod' a d, ltb-true 0 (a % d) t, le-mul-of-pos-right (a / d) p)) f
+  cut-fits (negsuc a) t f = let z : _≡_ {A = Bool} true false = sym t ∙ neg-not-above (suc a % d) in absurd (subst T z tt)
+
+  -- none above 0: the quotient was whole, or cut toward the greater number
+  pub uncut-up : (z : ℤ) → ltZ (pos 0) (remZ z (pos d)) ≡ false → quotZ z (pos d) ≡ upℤ z d
+  unfolding upℤ
+  uncut-up (pos a) t =
+      ap pos (up-unique a d p (a / d) (omega (arith, div-add-mod' a d, ltb-false 0 (a % d) t)) (omega (arith, div-add-mod' a d)))
+  uncut-up (negsuc a) t = refl

@@ -1,0 +1,11 @@
+// Whole-number arithmetic that loses nothing: quotients rounded to a stated side, the greatest root,
+// and the one f64 nearest to a quotient.
+mod quotient;
+mod ratio;
+mod root;
+
+pub use quotient::down;
+pub use quotient::up;
+pub use quotient::up_signed;
+pub use ratio::nearest;
+pub use root::greatest_root;
