@@ -3,4 +3,5 @@ pub mod QuotientLaws
 pub mod SignedLaws
 pub mod RootLaws
 pub mod RatioLaws
+pub mod Products
 pub mod Table

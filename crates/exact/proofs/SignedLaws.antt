@@ -2,13 +2,13 @@
 -- Assumes nothing.
 use mathlib.Core.Path.{_≡_, refl, sym, ap, _∙_, subst}
 use mathlib.Core.Bool.{Bool, true, false, not, cond}
-use Prim.Native.Nat.{ℕ, zero, suc, _+_, _-_, _*_, _/_, _%_, _≤_, _<_}
-use native.Mathlib.Nat.{div-add-mod', div-le-self, le-mul-of-pos-right, mod-lt, mul-pos, zero-mul, lt-irrefl}
+use Prim.Native.Nat.{ℕ, zero, suc, _+_, _-_, _*_, _/_, _%_, _^_, _≤_, _<_}
+use native.Mathlib.Nat.{div-add-mod', div-le-self, le-mul-of-pos-right, lt-of-le-of-lt, mod-lt, mul-pos, zero-mul, lt-irrefl}
 use native.Mathlib.Omega.{arith}
 use lib.Dec.{T, leb, ltb, leb→le, le→leb, ltb→lt, lt→ltb, nltb→le}
-use lib.IntN.{ℤ, pos, negsuc, negℤ, natAbs, subℕ, _+ℤ_, _*ℤ_}
+use lib.IntN.{ℤ, pos, negsuc, negℤ, natAbs, subℕ, _+ℤ_, _-ℤ_, _*ℤ_}
 use lib.Signed.{mag, leZ, ltZ, quotZ, remZ, _≤ℤ_, _<ℤ_, leZ-yes, ltZ-yes}
-use mir.Syntax.{Width}
+use mir.Syntax.{Width, w64}
 use mir.Val.{SFits}
 use mir.ValLaws.{sfits-le}
 use borrow.Author.Tests.{ltb-true, ltb-false}
@@ -79,6 +79,19 @@ module _ (d : ℕ) (p : 0 < d) where
 -- the same of a fraction: a margin of one, den / den
 pub rounded-upℤ : (f : Ratioℤ) → 0 < f .den → AtLeastℤ f (f .den) (upℤ (f .num) (f .den))
 rounded-upℤ f p = record { safe = upℤ-safe (f .den) p (f .num); near = upℤ-near (f .den) p (f .num) }
+
+-- ---- a difference of two whole numbers
+
+sub-size : (a b : ℕ) → mag (pos a -ℤ pos b) ≤ a + b
+sub-size a zero = omega arith
+sub-size a (suc b) = go (ltb a (suc b))
+  where
+    go : (t : Bool) → mag (cond t (negsuc (suc b - suc a)) (pos (a - suc b))) ≤ a + suc b
+    go true = omega arith
+    go false = omega arith
+
+pub sub-fits : (a b : ℕ) → a + b < 2 ^ 63 → SFits w64 (pos a -ℤ pos b)
+sub-fits a b h = record { sfits = lt-of-le-of-lt (sub-size a b) h }
 
 -- ---- the machine's division cuts toward zero
 

@@ -1,2 +1,3 @@
 pub mod Quotient
 pub mod Root
+pub mod Sides

@@ -8,16 +8,16 @@ use Rattle.exact.proofs.ratio.nearest.Tie as tie
 
 int-to-float-above : tie.Need-int-to-float-above
 unfolding inFloat
-int-to-float-above c = le→leb _ _ (le-of-lt (c .before .pre .0))
+int-to-float-above c = le→leb _ _ (le-of-lt (c .before .pre .need-exact))
 
 int-to-float-below : tie.Need-int-to-float-below
 unfolding inFloat
-int-to-float-below c = le→leb _ _ (le-of-lt (c .before .before .pre .1 .0))
+int-to-float-below c = le→leb _ _ (le-of-lt (c .before .before .pre .capacity-exact))
 
 returns : tie.Need-returns
 returns c =
     let p = c .before .before .pre in
-    whole-quotient binary64 _ _ (p .1 .1) (le-of-lt (p .0)) (le-of-lt (p .1 .0))
+    whole-quotient binary64 _ _ (p .capacity-above) (le-of-lt (p .need-exact)) (le-of-lt (p .capacity-exact))
 
 pub nearest-spec : {M : Type 1} → statement M
 nearest-spec = tie.close (tie.spec int-to-float-above int-to-float-below returns)

@@ -1,0 +1,96 @@
+-- The laws of the ranges: what a test of a figure says of it, and which ranges are empty or have 0 beside them.
+-- Assumes nothing.
+use mathlib.Core.Path.{_≡_, refl, sym, ap, _∙_, subst}
+use mathlib.Core.Bool.{Bool, true, false, not, _&&_, _||_}
+use mathlib.Core.Logic.{_⊎_, inl, inr}
+use Prim.Native.Nat.{ℕ, zero, suc, _≤_, _<_}
+use native.Mathlib.Nat.{lt-of-not-le, le-of-suc-le-suc}
+use native.Mathlib.Decide.{decLe}
+use native.Mathlib.Omega.{arith}
+use lib.Dec.{T, leb, eqb, leb→le, le→leb, eqb→eq}
+use lib.ListN.{List·getD-eq-default}
+use borrow.Author.Tests.{le-leb, lt-leb, ne-eqb}
+use Rattle.exact.proofs.Table.{every, at-each}
+use Rattle.fields.specs.Range.{Range, ranges, range, _to_, between, within, In}
+
+pub none-past : (k : ℕ) → 19 < k → range k ≡ (1 to 0)
+none-past zero h = refl
+none-past (suc k) h = List·getD-eq-default ranges (1 to 0) (le-of-suc-le-suc h)
+
+-- N alone may also be 0: one test over the fields, and no number past them has a range
+abbrev only-N : ℕ → Bool
+only-N k = eqb k 12 || not (range k .orZero)
+
+pub no-zero : (k : ℕ) → (k ≡ 12 → ⊥) → range k .orZero ≡ false
+no-zero k h = go (decLe k 19)
+  where
+    pick : (b o : Bool) → b ≡ false → T (b || not o) → o ≡ false
+    pick false true e t = absurd t
+    pick false false e t = refl
+    pick true o e t = absurd (subst T e tt)
+
+    go : Dec (k ≤ 19) → range k .orZero ≡ false
+    go (yes l) = pick (eqb k 12) (range k .orZero) (ne-eqb k 12 h) (at-each only-N 20 tt k (omega arith))
+    go (no f) = ap (λ (r : Range). r .orZero) (none-past k (lt-of-not-le f))
+
+-- a figure that passed the test is in the range, and back
+pub in-of-between : (k x : ℕ) → T (between (range k) x) → In k x
+unfolding between
+in-of-between k x = go (leb (range k .least) x) (leb→le (range k .least) x) (leb→le x (range k .greatest))
+  where
+    go : (a : Bool) → (T a → range k .least ≤ x) → (T (leb x (range k .greatest)) → x ≤ range k .greatest) → T (a && leb x (range k .greatest)) → In k x
+    go true y z t = (y tt, z t)
+    go false y z t = absurd t
+
+pub between-of-in : (k x : ℕ) → In k x → T (between (range k) x)
+unfolding between
+between-of-in k x h = go (leb (range k .least) x) (le→leb (range k .least) x (h .0))
+  where
+    go : (a : Bool) → T a → T (a && leb x (range k .greatest))
+    go true y = le→leb x (range k .greatest) (h .1)
+    go false y = y
+
+-- where a figure lies decides the test
+pub below : (r : Range) (x : ℕ) → x < r .least → false ≡ between r x
+unfolding between
+below r x h = rw (lt-leb _ _ h)
+
+pub above : (r : Range) (x : ℕ) → r .greatest < x → false ≡ between r x
+unfolding between
+above r x h = go (leb (r .least) x)
+  where
+    go : (a : Bool) → false ≡ (a && leb x (r .greatest))
+    go true = rw (lt-leb _ _ h)
+    go false = refl
+
+pub inside : (r : Range) (x : ℕ) → r .least ≤ x → x ≤ r .greatest → true ≡ between r x
+unfolding between
+inside r x h k = rw (le-leb _ _ h, le-leb _ _ k)
+
+pub nowhere : (k x : ℕ) → 19 < k → false ≡ between (range k) x
+nowhere k x h = subst (λ (r : Range). false ≡ between r x) (sym (none-past k h)) (go x)
+  where
+    go : (x : ℕ) → false ≡ between (1 to 0) x
+    go zero = below (1 to 0) 0 (omega arith)
+    go (suc x) = above (1 to 0) (suc x) (omega arith)
+
+-- a figure other than 0, and any figure of a field other than N, is in the range where it is between the ends; N may be 0
+pub within-plain : (k x : ℕ) → (k ≡ 12 → ⊥) → between (range k) x ≡ within (range k) x
+unfolding within
+within-plain k x h = rw (no-zero k h)
+
+pub within-some : (k x : ℕ) → (x ≡ 0 → ⊥) → between (range k) x ≡ within (range k) x
+unfolding within
+within-some k x h = go (range k .orZero)
+  where
+    go : (o : Bool) → between (range k) x ≡ ((o && eqb x 0) || between (range k) x)
+    go true = rw (ne-eqb x 0 h)
+    go false = refl
+
+pub within-none : (k x : ℕ) → k ≡ 12 → x ≡ 0 → true ≡ within (range k) x
+unfolding within
+within-none k x e z = rw (e, z)
+
+-- a figure that is in the range of a field other than N is between its ends
+pub in-of-within : (k x : ℕ) → (k ≡ 12 → ⊥) → within (range k) x ≡ true → In k x
+in-of-within k x h e = in-of-between k x (subst T (sym (within-plain k x h ∙ e)) tt)

@@ -1,0 +1,30 @@
+-- `rules::earthquake::uplift_of` meets its contract: each return knows the tests that led to it. Assumes nothing.
+use borrow.Author.Needs.{needs}
+use borrow.Author.Tests.{le-leb, lt-leb}
+use Rattle.rules.specs.Earthquake.{upliftOf}
+use Rattle.rules.proofs.earthquake.uplift_of.Statement.{statement}
+use Rattle.rules.proofs.earthquake.uplift_of.Tie as tie
+
+mul-need : tie.Need-mul-need
+mul-need c = search needs
+
+mul-if1 : tie.Need-mul-if1
+mul-if1 c = search needs
+
+returns : tie.Need-returns
+unfolding upliftOf
+returns c = rw (le-leb _ _ (c .if1 .taken))
+
+mul-if2 : tie.Need-mul-if2
+mul-if2 c = search needs
+
+returns-2 : tie.Need-returns-2
+unfolding upliftOf
+returns-2 c = rw (lt-leb _ _ (c .before .if1 .left), le-leb _ _ (c .if2 .taken))
+
+returns-3 : tie.Need-returns-3
+unfolding upliftOf
+returns-3 c = rw (lt-leb _ _ (c .before .if1 .left), lt-leb _ _ (c .if2 .left))
+
+pub uplift-of-spec : {M : Type 1} → statement M
+uplift-of-spec = tie.close (tie.spec mul-need mul-if1 returns mul-if2 returns-2 returns-3)

@@ -1,0 +1,36 @@
+-- Anchors: document 01, "The rules", Anchored, and the house rule for wind on a self-anchored tank. Pulls in pounds, up positive.
+use mathlib.Core.Bool.{cond}
+use Prim.Native.Nat.{ℕ, _*_}
+use lib.IntN.{ℤ, pos, negsuc, _-ℤ_}
+use lib.Signed.{ltZ}
+use Rattle.exact.specs.Quotient.{Ratioℤ, upℤ}
+use Rattle.rules.specs.Verdict.{verdictOf}
+use Rattle.rules.specs.declared.verdict.Verdict.{Verdict}
+
+-- the exact net pull per anchor, (4,800 × moment - W × B) / (N × B)
+unfoldable pub pullExact : ℕ → ℕ → ℕ → ℕ → Ratioℤ
+pullExact moment W B N = record { num = pos (4800 * moment) -ℤ pos (W * B); den = N * B }
+
+-- rounded toward the greater number
+unfoldable pub pullOf : ℕ → ℕ → ℕ → ℕ → ℤ
+pullOf moment W B N = let f = pullExact moment W B N in upℤ (f .num) (f .den)
+
+-- the larger of two pulls, or 0 if it is negative
+abbrev pub orZero : ℤ → ℕ
+orZero (pos n) = n
+orZero (negsuc n) = 0
+
+unfoldable pub largerPull : ℤ → ℤ → ℕ
+largerPull a b = orZero (cond (ltZ a b) b a)
+
+-- Spacing (D100, 10 ft): 355 × B at most 1,356,000 × N.
+unfoldable pub spacingVerdict : ℕ → ℕ → Verdict
+spacingVerdict B N = verdictOf (355 * B) (1356000 * N)
+
+-- Strength (FM 4020: 15,000 psi on the stress area, raised 33%): 1,000 × the larger pull at most 19,950 × A.
+unfoldable pub strengthVerdict : ℕ → ℕ → Verdict
+strengthVerdict pull A = verdictOf (1000 * pull) (19950 * A)
+
+-- Wind on a self-anchored tank (house): 3,600 × M at most W × D.
+unfoldable pub windVerdict : ℕ → ℕ → ℕ → Verdict
+windVerdict M W D = verdictOf (3600 * M) (W * D)

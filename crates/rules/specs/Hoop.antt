@@ -1,0 +1,29 @@
+-- Hoop thickness of a course: document 01, "The rules", Hoop (AWWA D100, t = 2.6 h D / (s E)). Plate in mils.
+use mathlib.Core.Bool.{cond}
+use Prim.Native.Nat.{ℕ, _+_, _-_, _*_, max}
+use lib.Dec.{leb}
+use Rattle.exact.specs.Quotient.{Ratio, upOf}
+
+-- h: the water level H less the height y of the course's bottom edge, or 0
+unfoldable pub headOf : ℕ → ℕ → ℕ
+headOf H y = H - y
+
+-- the exact need, 13 × h × D / (72 × s × E)
+unfoldable pub hoopExact : ℕ → ℕ → ℕ → ℕ → Ratio
+hoopExact h D s E = record { num = 13 * h * D; den = 72 * s * E }
+
+-- rounded up
+unfoldable pub hoopNeed : ℕ → ℕ → ℕ → ℕ → ℕ
+hoopNeed h D s E = let f = hoopExact h D s E in upOf (f .num) (f .den)
+
+-- how far above the exact need the rounded one may be
+unfoldable pub plateMargin : ℕ
+plateMargin = 1
+
+-- The house floor, by the diameter.
+unfoldable pub plateFloor : ℕ → ℕ
+plateFloor D = cond (leb D 60000) 188 (cond (leb D 144000) 250 313)
+
+-- The required plate: the need with the allowance c, or the floor, which has no allowance added, if that is larger.
+unfoldable pub requiredPlate : ℕ → ℕ → ℕ → ℕ
+requiredPlate need c D = max (need + c) (plateFloor D)

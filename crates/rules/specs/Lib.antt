@@ -1,0 +1,6 @@
+pub mod Verdict
+pub mod Hoop
+pub mod Wind
+pub mod Earthquake
+pub mod Anchors
+pub mod Bounds

@@ -1,0 +1,21 @@
+// Whether a check holds, with its use.
+ghost use mathlib.Core.Path.{_≡_};
+ghost use Rattle.exact.specs.Sides.{Sides};
+ghost use Rattle.rules.specs.Verdict.{verdictOf};
+
+// A check's word with its use, need over capacity.
+pub enum Verdict {
+    Holds(f64),
+    Short(f64),
+}
+
+pub fn judged(need: u64, capacity: u64) -> Verdict
+    requires { ⌜ Sides need capacity ⌝ }
+    ensures { λ r. ⌜ r ≡ verdictOf need capacity ⌝ }
+{
+    let quotient = exact::nearest(need, capacity);
+    if need <= capacity {
+        return Verdict::Holds(quotient);
+    }
+    Verdict::Short(quotient)
+}
