@@ -1,0 +1,24 @@
+-- The hoop need is on the safe side of its exact fraction and within its margin; a plate is at least the required one exactly when it
+-- is at least the need with the allowance and at least the floor.
+-- Assumes nothing.
+use Prim.Native.Nat.{ℕ, _+_, _*_, _≤_, _<_}
+use native.Mathlib.Nat.{mul-pos}
+use native.Mathlib.Omega.{arith}
+use Rattle.exact.specs.Quotient.{AtLeast}
+use Rattle.exact.proofs.QuotientLaws.{up-safe, up-near}
+use Rattle.rules.specs.Hoop.{hoopExact, hoopNeed, plateMargin, plateFloor, requiredPlate}
+
+pub hoop-rounded : (h D s E : ℕ) → 0 < s → 0 < E
+    → AtLeast (hoopExact h D s E) (plateMargin * hoopExact h D s E .den) (hoopNeed h D s E)
+unfolding hoopExact hoopNeed plateMargin
+hoop-rounded h D s E p q =
+    let pos : 0 < 72 * s * E = mul-pos (omega arith) q in
+    record { safe = up-safe (13 * h * D) (72 * s * E) pos; near = omega (arith, up-near (13 * h * D) (72 * s * E) pos) }
+
+pub required-meets : (need c D t : ℕ) → requiredPlate need c D ≤ t → (need + c ≤ t) × (plateFloor D ≤ t)
+unfolding requiredPlate
+required-meets need c D t h = omega arith
+
+pub required-least : (need c D t : ℕ) → need + c ≤ t → plateFloor D ≤ t → requiredPlate need c D ≤ t
+unfolding requiredPlate
+required-least need c D t h k = omega arith
