@@ -3,13 +3,14 @@
 use mathlib.Core.Path.{_≡_, refl, sym, ap, _∙_, subst}
 use mathlib.Core.Bool.{Bool, true, false, not, cond}
 use Prim.Native.Nat.{ℕ, zero, suc, _+_, _-_, _*_, _/_, _%_, _^_, _≤_, _<_}
-use native.Mathlib.Nat.{div-add-mod', div-le-self, le-mul-of-pos-right, lt-of-le-of-lt, mod-lt, mul-pos, zero-mul, lt-irrefl}
+use native.Mathlib.Nat.{div-add-mod', div-le-self, le-mul-of-pos-right, lt-of-le-of-lt, mod-lt, mul-pos, zero-mul, lt-irrefl, not-suc-le-zero, zero-add}
 use native.Mathlib.Omega.{arith}
 use lib.Dec.{T, leb, ltb, leb→le, le→leb, ltb→lt, lt→ltb, nltb→le}
-use lib.IntN.{ℤ, pos, negsuc, negℤ, natAbs, subℕ, _+ℤ_, _-ℤ_, _*ℤ_}
-use lib.Signed.{mag, leZ, ltZ, quotZ, remZ, _≤ℤ_, _<ℤ_, leZ-yes, ltZ-yes}
+use lib.IntN.{ℤ, pos, negsuc, negℤ, natAbs, subℕ, _+ℤ_, _-ℤ_, _*ℤ_, +ℤ-one}
+use lib.Signed.{mag, nonNeg, leZ, ltZ, quotZ, remZ, _≤ℤ_, _<ℤ_, leZ-yes, ltZ-yes}
 use mir.Syntax.{Width, w64}
-use mir.Val.{SFits}
+use mir.Val.{Fits, SFits, toZ, ofZ}
+use mir.Facts.{toZ-ofZ, fits-natAbs}
 use mir.ValLaws.{sfits-le}
 use borrow.Author.Tests.{ltb-true, ltb-false}
 use Rattle.exact.specs.Quotient.{downOf, upOf, upℤ, Ratioℤ, AtLeastℤ}
@@ -17,7 +18,7 @@ use Rattle.exact.proofs.QuotientLaws.{up-safe, up-near, up-least, up-un
 
 -- ---- a negated whole number
 
-neg-size : (r a : ℕ) → r ≤ suc a → mag (negℤ (pos r)) ≤ a
+pub neg-size : (r a : ℕ) → r ≤ suc a → mag (negℤ (pos r)) ≤ a
 neg-size zero a h = omega arith
 neg-size (suc r) a h = omega arith
 
@@ -121,3 +122,26 @@ module _ (d : ℕ) (p : 0 < d) where
   uncut-up (pos a) t =
       ap pos (up-unique a d p (a / d) (omega (arith, div-add-mod' a d, ltb-false 0 (a % d) t)) (omega (arith, div-add-mod' a d)))
   uncut-up (negsuc a) t = refl
+
+-- ---- a number that is not below 0, as a whole number, and one below 0 by its size
+
+not-below : (z : ℤ) → ltZ z (pos 0) ≡ false → T (nonNeg z)
+not-below (pos n) t = tt
+not-below (negsuc n) t = subst T t tt
+
+-- the machine's test, and the cast that it allows
+pub castable : (z : ℤ) → SFits w64 z → ltZ (toZ w64 (ofZ w64 z)) (pos 0) ≡ false
+    → T (nonNeg (toZ w64 (ofZ w64 z))) × Fits w64 (natAbs (toZ w64 (ofZ w64 z)))
+castable z f t = rw (toZ-ofZ f) (not-below z (rw (toZ-ofZ f) at t), fits-natAbs tt f)
+
+pub below-zero : (z : ℤ) → ltZ z (pos 0) ≡ true → (n : ℕ) × (z ≡ negsuc n)
+below-zero (pos n) t = absurd (not-suc-le-zero (ltb-true n 0 t))
+below-zero (negsuc n) t = (n, refl)
+
+pub one-more : (n : ℕ) → negsuc n +ℤ pos 1 ≡ negℤ (pos n)
+one-more zero = refl
+one-more (suc n) = +ℤ-one (negsuc (suc n))
+
+pub opposite : (n : ℕ) → pos 0 -ℤ negℤ (pos n) ≡ pos n
+opposite zero = refl
+opposite (suc n) = rw zero-add

@@ -5,6 +5,7 @@ mod ratio;
 mod root;
 
 pub use quotient::down;
+pub use quotient::magnitude;
 pub use quotient::up;
 pub use quotient::up_signed;
 pub use ratio::nearest;

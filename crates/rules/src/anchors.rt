@@ -40,7 +40,7 @@ fn or_zero(pull: i64) -> u64
     if pull < 0 {
         return 0;
     }
-    pull as u64
+    exact::magnitude(pull)
 }
 
 // Whether the anchors stand close enough.
