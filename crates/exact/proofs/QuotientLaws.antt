@@ -4,7 +4,7 @@ use mathlib.Core.Path.{_≡_, sym}
 use Prim.Native.Nat.{ℕ, suc, _+_, _-_, _*_, _/_, _%_, _≤_, _<_}
 use native.Mathlib.Nat.{div-mul-le-self, lt-div-mul-add, le-div-iff-mul-le, div-eq-of-lt-le, div-lt-iff-lt-mul, le-of-suc-le-suc, suc-mul}
 use native.Mathlib.Omega.{arith}
-use Rattle.exact.specs.Quotient.{downOf, upOf, Ratio, AtLeast, AtMost}
+use Rattle.exact.specs.Quotient.{downOf, upOf, Ratio, whole, AtLeast, AtMost}
 
 module _ (n d : ℕ) (h : 0 < d) where
   -- Rounded down: at most the quotient, less than one below it, and the greatest such.
@@ -35,9 +35,9 @@ module _ (n d : ℕ) (h : 0 < d) where
   unfolding upOf
   up-unique q l m = sym (div-eq-of-lt-le d (omega arith) (omega arith))
 
--- The same of a fraction, as the figures of the rules use it: a margin of one, den / den.
-pub rounded-up : (f : Ratio) → 0 < f .den → AtLeast f (f .den) (upOf (f .num) (f .den))
-rounded-up f h = record { safe = up-safe (f .num) (f .den) h; near = up-near (f .num) (f .den) h }
+-- The same of a fraction, as the figures of the rules use it: a margin of one.
+pub rounded-up : (f : Ratio) → 0 < f .den → AtLeast f (whole 1) (upOf (f .num) (f .den))
+rounded-up f h = record { safe = up-safe (f .num) (f .den) h; near = omega (arith, up-near (f .num) (f .den) h) }
 
-pub rounded-down : (f : Ratio) → 0 < f .den → AtMost f (f .den) (downOf (f .num) (f .den))
-rounded-down f h = record { safe = down-safe (f .num) (f .den) h; near = down-near (f .num) (f .den) h }
+pub rounded-down : (f : Ratio) → 0 < f .den → AtMost f (whole 1) (downOf (f .num) (f .den))
+rounded-down f h = record { safe = down-safe (f .num) (f .den) h; near = omega (arith, down-near (f .num) (f .den) h) }

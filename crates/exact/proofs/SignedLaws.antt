@@ -3,7 +3,7 @@
 use mathlib.Core.Path.{_≡_, refl, sym, ap, _∙_, subst}
 use mathlib.Core.Bool.{Bool, true, false, not, cond}
 use Prim.Native.Nat.{ℕ, zero, suc, _+_, _-_, _*_, _/_, _%_, _^_, _≤_, _<_}
-use native.Mathlib.Nat.{div-add-mod', div-le-self, le-mul-of-pos-right, lt-of-le-of-lt, mod-lt, mul-pos, zero-mul, lt-irrefl, not-suc-le-zero, zero-add}
+use native.Mathlib.Nat.{div-add-mod', div-le-self, le-mul-of-pos-right, lt-of-le-of-lt, mod-lt, mul-pos, zero-mul, lt-irrefl, lt-of-not-le, not-suc-le-self, not-suc-le-zero, zero-add}
 use native.Mathlib.Omega.{arith}
 use lib.Dec.{T, leb, ltb, leb→le, le→leb, ltb→lt, lt→ltb, nltb→le}
 use lib.IntN.{ℤ, pos, negsuc, negℤ, natAbs, subℕ, _+ℤ_, _-ℤ_, _*ℤ_, +ℤ-one}
@@ -13,7 +13,7 @@ use mir.Val.{Fits, SFits, toZ, ofZ}
 use mir.Facts.{toZ-ofZ, fits-natAbs}
 use mir.ValLaws.{sfits-le}
 use borrow.Author.Tests.{ltb-true, ltb-false}
-use Rattle.exact.specs.Quotient.{downOf, upOf, upℤ, Ratioℤ, AtLeastℤ}
+use Rattle.exact.specs.Quotient.{downOf, upOf, upℤ, positivePart, Ratioℤ, AtLeastℤ}
 use Rattle.exact.proofs.QuotientLaws.{up-safe, up-near, up-least, up-unique, down-safe, down-near, down-greatest}
 
 -- ---- a negated whole number
@@ -77,8 +77,8 @@ module _ (d : ℕ) (p : 0 < d) where
   upℤ-least (negsuc n) (negsuc m) h =
       leZ-yes (neg-le-neg (downOf (suc n) d) m (down-greatest (suc n) d p (suc m) (neg-ge-back (suc m * d) n (h .le))))
 
--- the same of a fraction: a margin of one, den / den
-pub rounded-upℤ : (f : Ratioℤ) → 0 < f .den → AtLeastℤ f (f .den) (upℤ (f .num) (f .den))
+-- the same of a fraction
+pub rounded-upℤ : (f : Ratioℤ) → 0 < f .den → AtLeastℤ f (upℤ (f .num) (f .den))
 rounded-upℤ f p = record { safe = upℤ-safe (f .den) p (f .num); near = upℤ-near (f .den) p (f .num) }
 
 -- ---- a difference of two whole numbers
@@ -145,3 +145,51 @@ one-more (suc n) = +ℤ-one (negsuc (suc n))
 pub opposite : (n : ℕ) → pos 0 -ℤ negℤ (pos n) ≡ pos n
 opposite zero = refl
 opposite (suc n) = rw zero-add
+
+-- ---- the part above 0 of a difference over a whole number, (a - b) / d rounded toward the greater number
+
+sub-le : (a b k : ℕ) → a ≤ b + k → T (leZ (pos a -ℤ pos b) (pos k))
+sub-le a zero k h = le→leb (a + 0) k (omega arith)
+sub-le a (suc b) k h = go (ltb a (suc b)) (nltb→le a (suc b))
+  where
+    go : (t : Bool) → (T (not t) → suc b ≤ a) → T (leZ (cond t (negsuc (suc b - suc a)) (pos (a - suc b))) (pos k))
+    go true f = tt
+    go false f = le→leb (a - suc b) k (omega (arith, f tt))
+
+sub-le-back : (a b k : ℕ) → T (leZ (pos a -ℤ pos b) (pos k)) → a ≤ b + k
+sub-le-back a zero k t = omega (arith, leb→le (a + 0) k t)
+sub-le-back a (suc b) k t = go (ltb a (suc b)) (ltb→lt a (suc b)) t
+  where
+    go : (t : Bool) → (T t → a < suc b) → T (leZ (cond t (negsuc (suc b - suc a)) (pos (a - suc b))) (pos k)) → a ≤ suc b + k
+    go true y t = omega (arith, y tt)
+    go false y t = omega (arith, leb→le (a - suc b) k t)
+
+not-above : (z : ℤ) (x : ℕ) → T (leZ z (negℤ (pos x))) → T (leZ z (pos 0))
+not-above z zero t = t
+not-above (pos n) (suc x) t = absurd t
+not-above (negsuc n) (suc x) t = tt
+
+module _ (a b d : ℕ) (p : 0 < d) where
+  -- it is at least the exact difference,
+  pub part-safe : a ≤ b + positivePart (upℤ (pos a -ℤ pos b) d) * d
+  part-safe = go (upℤ (pos a -ℤ pos b) d) (upℤ-safe d p (pos a -ℤ pos b) .le)
+    where
+      go : (z : ℤ) → T (leZ (pos a -ℤ pos b) (z *ℤ pos d)) → a ≤ b + positivePart z * d
+      go (pos k) t = sub-le-back a b (k * d) t
+      go (negsuc n) t = omega (arith, sub-le-back a b 0 (not-above (pos a -ℤ pos b) (suc n * d) t))
+
+  -- it is the least whole number that is,
+  pub part-least : (k : ℕ) → a ≤ b + k * d → positivePart (upℤ (pos a -ℤ pos b) d) ≤ k
+  part-least k h = go (upℤ (pos a -ℤ pos b) d) (upℤ-least d p (pos a -ℤ pos b) (pos k) (leZ-yes (sub-le a b (k * d) h)) .le)
+    where
+      go : (z : ℤ) → T (leZ z (pos k)) → positivePart z ≤ k
+      go (pos m) t = leb→le m k t
+      go (negsuc n) t = omega arith
+
+  -- and above 0 it is less than one above it.
+  pub part-near : 0 < positivePart (upℤ (pos a -ℤ pos b) d) → b + positivePart (upℤ (pos a -ℤ pos b) d) * d < a + d
+  part-near h = go (positivePart (upℤ (pos a -ℤ pos b) d)) h part-least
+    where
+      go : (r : ℕ) → 0 < r → ((k : ℕ) → a ≤ b + k * d → r ≤ k) → b + r * d < a + d
+      go zero h f = absurd (lt-irrefl 0 h)
+      go (suc k) h f = lt-of-not-le (λ l. not-suc-le-self k (f k (omega arith)))

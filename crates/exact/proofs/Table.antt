@@ -12,11 +12,11 @@ abbrev pub every : (ℕ → Bool) → ℕ → Bool
 every f zero = true
 every f (suc n) = f n && every f n
 
-first : (a b : Bool) → T (a && b) → T a
+pub first : (a b : Bool) → T (a && b) → T a
 first true b t = tt
 first false b t = t
 
-second : (a b : Bool) → T (a && b) → T b
+pub second : (a b : Bool) → T (a && b) → T b
 second true b t = t
 second false b t = absurd t
 

@@ -3,10 +3,12 @@
 mod quotient;
 mod ratio;
 mod root;
+mod sign;
 
 pub use quotient::down;
-pub use quotient::magnitude;
 pub use quotient::up;
 pub use quotient::up_signed;
 pub use ratio::nearest;
 pub use root::greatest_root;
+pub use sign::magnitude;
+pub use sign::positive_part;

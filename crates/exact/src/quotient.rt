@@ -38,15 +38,3 @@ pub fn up_signed(num: i64, den: i64) -> i64
     }
     whole
 }
-
-// The size of a number, without its sign. From one more than a negative number, since the least i64
-// has no opposite.
-pub fn magnitude(z: i64) -> u64
-    ensures { λ r. ⌜ r ≡ natAbs z ⌝ }
-{
-    if z < 0 {
-        let less = 0 - (z + 1);
-        return less as u64 + 1;
-    }
-    z as u64
-}

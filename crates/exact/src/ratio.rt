@@ -1,4 +1,4 @@
-// The use of a check, as a float.
+// A quotient as a float.
 ghost use mathlib.Core.Path.{_≡_};
 ghost use mathlib.Core.Bool.{false};
 ghost use lib.Ieee.{binary64, round};

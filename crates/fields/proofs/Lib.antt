@@ -1,2 +1,3 @@
 -- The laws that callers' proofs cite.
 pub mod RangeLaws
+pub mod BoltLaws

@@ -1,5 +1,5 @@
 -- The bolt chart: document 01, "Anchored".
-use mathlib.Core.Bool.{cond}
+use mathlib.Core.Bool.{Bool, false, _||_, cond}
 use mathlib.Core.List.{List, [], _∷_}
 use Prim.Native.Nat.{ℕ}
 use lib.Dec.{eqb}
@@ -29,6 +29,14 @@ chart =
 abbrev pub areaIn : List Bolt → ℕ → ℕ
 areaIn [] d = 0
 areaIn (b ∷ bs) d = cond (eqb d (b .size)) (b .area) (areaIn bs d)
+
+-- whether the size d is in the chart
+abbrev pub sizeIn : List Bolt → ℕ → Bool
+sizeIn [] d = false
+sizeIn (b ∷ bs) d = eqb d (b .size) || sizeIn bs d
+
+unfoldable pub inChart : ℕ → Bool
+inChart d = sizeIn chart d
 
 -- A of the size d, and 0 for a size that is not in the chart
 unfoldable pub stressArea : ℕ → ℕ

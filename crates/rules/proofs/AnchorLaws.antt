@@ -1,86 +1,80 @@
--- The pull is on the safe side of its exact fraction and within its margin, signed; and the same of its part above 0, over whole numbers.
+-- The pull is on the safe side of its exact fraction and within its margin. `strength-safe`: anchors that hold the rounded pull hold the
+-- exact one, of any moment up to the one that was rounded up. `strength-near`: anchors that hold the exact pull with its margin, of any
+-- moment from the rounded one on, hold the rounded pull.
 -- Assumes nothing.
 use mathlib.Core.Path.{_≡_, refl}
+use mathlib.Core.Logic.{_⊎_, inl, inr}
 use mathlib.Core.Bool.{Bool, true, false, not, cond}
-use Prim.Native.Nat.{ℕ, zero, suc, _+_, _-_, _*_, max, _≤_, _<_}
-use native.Mathlib.Nat.{lt-irrefl, lt-of-not-le, mul-pos, not-suc-le-self}
+use Prim.Native.Nat.{ℕ, zero, suc, _+_, _*_, max, _≤_, _<_}
+use native.Mathlib.Nat.{eq-zero-or-pos, mul-le-mul-left, mul-le-mul-right, mul-pos, lt-of-not-le}
+use native.Mathlib.Decide.{decLe}
 use native.Mathlib.Omega.{arith}
-use lib.Dec.{T, leb, ltb, leb→le, le→leb, ltb→lt, lt→ltb, nltb→le}
-use lib.IntN.{ℤ, pos, negsuc, negℤ, subℕ, _+ℤ_, _-ℤ_, _*ℤ_}
-use lib.Signed.{leZ, ltZ, _≤ℤ_, _<ℤ_, leZ-yes}
-use Rattle.exact.specs.Quotient.{AtLeastℤ, upℤ}
-use Rattle.exact.proofs.SignedLaws.{rounded-upℤ, upℤ-least}
-use Rattle.rules.specs.Anchors.{pullExact, pullOf, orZero, largerPull}
-
-pub pull-rounded : (moment W B N : ℕ) → 0 < N → 0 < B → AtLeastℤ (pullExact moment W B N) (N * B) (pullOf moment W B N)
-unfolding pullExact pullOf
-pull-rounded moment W B N p q = rounded-upℤ (pullExact moment W B N) (mul-pos p q)
-
--- ---- a difference against a whole number
-
-sub-le : (a b k : ℕ) → a ≤ b + k → T (leZ (pos a -ℤ pos b) (pos k))
-sub-le a zero k h = le→leb (a + 0) k (omega arith)
-sub-le a (suc b) k h = go (ltb a (suc b)) (nltb→le a (suc b))
-  where
-    go : (t : Bool) → (T (not t) → suc b ≤ a) → T (leZ (cond t (negsuc (suc b - suc a)) (pos (a - suc b))) (pos k))
-    go true f = tt
-    go false f = le→leb (a - suc b) k (omega (arith, f tt))
-
-sub-le-back : (a b k : ℕ) → T (leZ (pos a -ℤ pos b) (pos k)) → a ≤ b + k
-sub-le-back a zero k t = omega (arith, leb→le (a + 0) k t)
-sub-le-back a (suc b) k t = go (ltb a (suc b)) (ltb→lt a (suc b)) t
-  where
-    go : (t : Bool) → (T t → a < suc b) → T (leZ (cond t (negsuc (suc b - suc a)) (pos (a - suc b))) (pos k)) → a ≤ suc b + k
-    go true y t = omega (arith, y tt)
-    go false y t = omega (arith, leb→le (a - suc b) k t)
-
--- ---- the part of a pull above 0
-
-not-above : (z : ℤ) (x : ℕ) → T (leZ z (negℤ (pos x))) → T (leZ z (pos 0))
-not-above z zero t = t
-not-above (pos n) (suc x) t = absurd t
-not-above (negsuc n) (suc x) t = tt
+use lib.Dec.{T, ltb, ltb→lt, nltb→le}
+use lib.IntN.{ℤ, pos, negsuc}
+use Rattle.exact.specs.Quotient.{Ratio, whole, positivePart, AtLeastℤ}
+use Rattle.exact.proofs.SignedLaws.{rounded-upℤ, part-safe, part-least, part-near}
+use Rattle.rules.specs.Anchors.{pullExact, pullOf, pullMargin, largerPull, Strong}
 
 module _ (moment W B N : ℕ) (p : 0 < N) (q : 0 < B) where
-  -- safe: the anchor carries at least the exact pull
-  pub pull-covers : 4800 * moment ≤ W * B + orZero (pullOf moment W B N) * (N * B)
-  unfolding pullExact
-  pull-covers = go (pullOf moment W B N) (pull-rounded moment W B N p q .safe .le)
-    where
-      go : (z : ℤ) → T (leZ (pos (4800 * moment) -ℤ pos (W * B)) (z *ℤ pos (N * B))) → 4800 * moment ≤ W * B + orZero z * (N * B)
-      go (pos k) t = sub-le-back (4800 * moment) (W * B) (k * (N * B)) t
-      go (negsuc n) t = omega (arith, sub-le-back (4800 * moment) (W * B) 0 (not-above (pos (4800 * moment) -ℤ pos (W * B)) (suc n * (N * B)) t))
+  pub pull-rounded : AtLeastℤ (pullExact moment W B N) (pullOf moment W B N)
+  unfolding pullExact pullOf
+  pull-rounded = rounded-upℤ (pullExact moment W B N) (mul-pos p q)
 
-  -- and it is the least whole number that does
-  pub pull-least : (k : ℕ) → 4800 * moment ≤ W * B + k * (N * B) → orZero (pullOf moment W B N) ≤ k
+  -- the pull that an anchor carries, in whole pounds
+  pub pull-safe : 4800 * moment ≤ W * B + positivePart (pullOf moment W B N) * (N * B)
   unfolding pullOf pullExact
-  pull-least k h =
-      go (pullOf moment W B N) (upℤ-least (N * B) (mul-pos p q) (pos (4800 * moment) -ℤ pos (W * B)) (pos k) (leZ-yes (sub-le (4800 * moment) (W * B) (k * (N * B)) h)) .le)
-    where
-      go : (z : ℤ) → T (leZ z (pos k)) → orZero z ≤ k
-      go (pos m) t = leb→le m k t
-      go (negsuc n) t = omega arith
+  pull-safe = part-safe (4800 * moment) (W * B) (N * B) (mul-pos p q)
 
-  -- near: a pull above 0 is less than one pound above the exact one
-  pub pull-near : 0 < orZero (pullOf moment W B N) → W * B + orZero (pullOf moment W B N) * (N * B) < 4800 * moment + N * B
-  pull-near h = go (orZero (pullOf moment W B N)) h pull-least
+  pub pull-least : (k : ℕ) → 4800 * moment ≤ W * B + k * (N * B) → positivePart (pullOf moment W B N) ≤ k
+  unfolding pullOf pullExact
+  pull-least = part-least (4800 * moment) (W * B) (N * B) (mul-pos p q)
+
+  pub pull-near : 0 < positivePart (pullOf moment W B N) → W * B + positivePart (pullOf moment W B N) * (N * B) < 4800 * moment + N * B
+  unfolding pullOf pullExact
+  pull-near = part-near (4800 * moment) (W * B) (N * B) (mul-pos p q)
+
+-- over plain numbers: r is the pull, b is W × B, d is N × B, and n / e a moment
+holds-exact : (r A m b d n e : ℕ) → n ≤ m * e → 4800 * m ≤ b + r * d → 1000 * r ≤ 19950 * A
+    → 1000 * (4800 * n) ≤ (19950 * A * d + 1000 * b) * e
+holds-exact r A m b d n e h k s = omega (arith, h, mul-le-mul-right e k, mul-le-mul-right (d * e) s)
+
+falls-short : (r A m b d n e : ℕ) → 0 < e → m * e ≤ n → b + r * d < 4800 * m + d → 19950 * A < 1000 * r
+    → (19950 * A * d + 1000 * b) * e < 1000 * (4800 * n + d * e)
+falls-short r A m b d n e p h k s = omega (arith, h, mul-le-mul-right e k, mul-le-mul-right (d * e) s, p)
+
+module _ (f : Ratio) (moment W B N A : ℕ) (p : 0 < N) (q : 0 < B) where
+  pub strength-safe : f .num ≤ moment * f .den → 1000 * positivePart (pullOf moment W B N) ≤ 19950 * A → Strong f W B N A (whole 0)
+  strength-safe h s =
+      record {
+        strong = omega (arith, holds-exact (positivePart (pullOf moment W B N)) A moment (W * B) (N * B) (f .num) (f .den) h (pull-safe moment W B N p q) s);
+      }
+
+  pub strength-near : 0 < f .den → moment * f .den ≤ f .num → Strong f W B N A pullMargin
+      → 1000 * positivePart (pullOf moment W B N) ≤ 19950 * A
+  unfolding pullMargin
+  strength-near e h k = go (decLe (1000 * r) (19950 * A)) (eq-zero-or-pos r)
     where
-      go : (r : ℕ) → 0 < r → ((k : ℕ) → 4800 * moment ≤ W * B + k * (N * B) → r ≤ k) → W * B + r * (N * B) < 4800 * moment + N * B
-      go zero h f = absurd (lt-irrefl 0 h)
-      go (suc k) h f = lt-of-not-le (λ l. not-suc-le-self k (f k (omega arith)))
+      r : ℕ
+      r = positivePart (pullOf moment W B N)
+
+      go : Dec (1000 * r ≤ 19950 * A) → (r ≡ 0) ⊎ (0 < r) → 1000 * r ≤ 19950 * A
+      go (yes l) z = l
+      go (no l) (inl z) = omega arith
+      go (no l) (inr z) =
+          omega (arith, falls-short r A moment (W * B) (N * B) (f .num) (f .den) e h (pull-near moment W B N p q z) (lt-of-not-le l), k .strong)
 
 -- the larger pull or 0 is the larger of the two parts above 0
-pub larger-is : (a b : ℤ) → largerPull a b ≡ max (orZero a) (orZero b)
+pub larger-is : (a b : ℤ) → largerPull a b ≡ max (positivePart a) (positivePart b)
 unfolding largerPull
 larger-is (pos m) (pos n) = go (ltb m n) (ltb→lt m n) (nltb→le m n)
   where
-    go : (t : Bool) → (T t → m < n) → (T (not t) → n ≤ m) → orZero (cond t (pos n) (pos m)) ≡ max m n
+    go : (t : Bool) → (T t → m < n) → (T (not t) → n ≤ m) → positivePart (cond t (pos n) (pos m)) ≡ max m n
     go true y f = omega (arith, y tt)
     go false y f = omega (arith, f tt)
 larger-is (pos m) (negsuc n) = omega arith
 larger-is (negsuc m) (pos n) = omega arith
 larger-is (negsuc m) (negsuc n) = go (ltb n m)
   where
-    go : (t : Bool) → orZero (cond t (negsuc n) (negsuc m)) ≡ 0
+    go : (t : Bool) → positivePart (cond t (negsuc n) (negsuc m)) ≡ 0
     go true = refl
     go false = refl

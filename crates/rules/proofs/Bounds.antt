@@ -1,4 +1,4 @@
--- The bounds of the rules' figures, stated once: each figure is at most its greatest value, T is above 0, and both sides of every
+-- The bounds of the rules' figures, stated once: each figure is at most its bound of `specs/Bounds.antt`, T is above 0, and both sides of every
 -- comparison of document 01 are below 2 ^ 53 with a capacity above 0.
 -- Assumes nothing.
 use mathlib.Core.Bool.{Bool, true, false, cond}
@@ -7,14 +7,15 @@ use native.Mathlib.Nat.{add-le-add, le-min, lt-of-le-of-lt, max-le, mul-le-mul, 
 use native.Mathlib.Omega.{arith}
 use lib.Dec.{leb, lit<}
 use lib.IntN.{ℤ}
+use Rattle.exact.specs.Quotient.{positivePart}
 use Rattle.exact.specs.Sides.{Sides}
 use Rattle.exact.proofs.QuotientLaws.{down-safe, down-greatest, up-least}
 use Rattle.exact.proofs.RootLaws.{root-greatest}
 use Rattle.fields.specs.Range.{In}
-use Rattle.rules.specs.Anchors.{pullOf, orZero, largerPull}
-use Rattle.rules.specs.Bounds.{mostBottom, mostHeight, mostMoment, mostNeed, mostPressure, mostPull, mostRequired, mostResistance, mostShell}
+use Rattle.rules.specs.Anchors.{pullOf, largerPull}
+use Rattle.rules.specs.Bounds.{leastYield, mostArea, mostBottom, mostHeight, mostMoment, mostNeed, mostPlate, mostPressure, mostPull, mostRequired, mostResistance, mostShell, mostYield}
 use Rattle.rules.specs.Earthquake.{shellExact, shellWeight, rootMost, bottomRoot, capExact, bottomCap, bottomWeight, resistanceOf}
-use Rattle.rules.specs.Hoop.{hoopExact, hoopNeed, plateFloor, requiredPlate}
+use Rattle.rules.specs.Hoop.{headOf, hoopExact, hoopNeed, plateFloor, requiredPlate}
 use Rattle.rules.specs.Wind.{pressureOf, momentOf}
 use Rattle.rules.proofs.AnchorLaws.{pull-least, larger-is}
 use Rattle.rules.proofs.EarthquakeLaws.{root-fits}
@@ -28,13 +29,17 @@ floor-most D = go (leb D 60000) (leb D 144000)
     go false true = omega arith
     go false false = omega arith
 
--- ---- the greatest value of each figure
+-- ---- the upper bound of each figure
 
 pub need-most : (h D s E : ℕ) → h ≤ mostHeight → In 1 D → In 18 s → In 19 E → hoopNeed h D s E ≤ mostNeed
 unfolding hoopNeed hoopExact
 need-most h D s E a d b e =
     up-least (13 * h * D) (72 * s * E) (mul-pos (omega arith) (omega arith)) mostNeed
     (omega (arith, mul-le-mul a (d .1), mul-le-mul (b .0) (e .0)))
+
+pub head-most : (H y : ℕ) → In 2 H → headOf H y ≤ mostHeight
+unfolding headOf
+head-most H y h = omega arith
 
 pub required-most : (need c D : ℕ) → need ≤ mostNeed → In 17 c → requiredPlate need c D ≤ mostRequired
 unfolding requiredPlate
@@ -66,21 +71,21 @@ unfolding resistanceOf
 resistance-most D wt wL d a b =
     omega (arith, down-safe (D * D * (wt + wL)) 144000000 (omega arith), mul-le-mul (mul-le-mul (d .1) (d .1)) (add-le-add a b))
 
-pub pull-most : (moment W B N : ℕ) → moment ≤ mostMoment → 0 < B → In 12 N → orZero (pullOf moment W B N) ≤ mostPull
+pub pull-most : (moment W B N : ℕ) → moment ≤ mostMoment → 0 < B → In 12 N → positivePart (pullOf moment W B N) ≤ mostPull
 pull-most moment W B N h b n =
     pull-least moment W B N (omega arith) b mostPull (omega (arith, mul-le-mul (n .0) b))
 
-pub larger-most : (a b : ℤ) → orZero a ≤ mostPull → orZero b ≤ mostPull → largerPull a b ≤ mostPull
+pub larger-most : (a b : ℤ) → positivePart a ≤ mostPull → positivePart b ≤ mostPull → largerPull a b ≤ mostPull
 larger-most a b h k = rw larger-is (max-le h k)
 
 -- ---- T is above 0 for every sheet: wL alone is above 0, and D × D is at least 144,000,000
 
-pub bottom-above : (tb Fy H D : ℕ) → 0 < tb → tb ≤ 500 → In 6 Fy → In 2 H → In 1 D → 0 < bottomWeight tb Fy H D
+pub bottom-above : (tb Fy H D : ℕ) → 0 < tb → tb ≤ mostPlate → leastYield ≤ Fy → Fy ≤ mostYield → In 2 H → In 1 D → 0 < bottomWeight tb Fy H D
 unfolding bottomWeight bottomRoot bottomCap capExact rootMost
-bottom-above tb Fy H D p t f h d =
+bottom-above tb Fy H D p t g f h d =
     le-min
     (root-greatest 12000000 (6241 * tb * tb * Fy * H) (omega arith) (root-fits tb Fy H t f h) 1
-    (omega (arith, mul-le-mul (mul-le-mul p p) (mul-le-mul (f .0) (h .0)))))
+    (omega (arith, mul-le-mul (mul-le-mul p p) (mul-le-mul g (h .0)))))
     (down-greatest (H * D) 11250 (omega arith) 1 (omega (arith, mul-le-mul (h .0) (d .0))))
 
 pub resistance-above : (D wt wL : ℕ) → In 1 D → 0 < wL → 0 < resistanceOf D wt wL
@@ -107,5 +112,5 @@ quake-sides Ms T h p k = omega arith
 pub spacing-sides : (B N : ℕ) → In 13 B → In 12 N → Sides (355 * B) (1356000 * N)
 spacing-sides B N h k = omega arith
 
-pub strength-sides : (pull A : ℕ) → pull ≤ mostPull → 0 < A → A ≤ 2500 → Sides (1000 * pull) (19950 * A)
+pub strength-sides : (pull A : ℕ) → pull ≤ mostPull → 0 < A → A ≤ mostArea → Sides (1000 * pull) (19950 * A)
 strength-sides pull A h p k = omega arith

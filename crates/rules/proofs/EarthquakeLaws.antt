@@ -8,29 +8,30 @@ use native.Mathlib.Nat.{le-of-lt, le-trans, min-eq-left, min-le-left, lt-of-le-o
 use native.Mathlib.Decide.{decLe}
 use native.Mathlib.Omega.{arith}
 use lib.Dec.{lit<}
-use Rattle.exact.specs.Quotient.{Ratio, AtMost}
+use Rattle.exact.specs.Quotient.{Ratio, whole, plus, AtMost}
 use Rattle.exact.proofs.QuotientLaws.{rounded-down, down-safe, down-near}
 use Rattle.exact.proofs.RootLaws.{root-safe, root-near}
 use Rattle.fields.specs.Range.{In}
-use Rattle.rules.specs.Earthquake.{shellExact, shellWeight, rootMost, bottomRoot, capExact, bottomCap, bottomWeight, resistanceOf, Carried, Resists, plusMargin}
+use Rattle.rules.specs.Bounds.{mostPlate, mostYield}
+use Rattle.rules.specs.Earthquake.{shellExact, shellWeight, rootMost, bottomRoot, capExact, bottomCap, bottomWeight, resistanceOf, Carried, Resists, resistanceMargin}
 
 shell-den : (W Av D : ℕ) → 0 < D → 0 < shellExact W Av D .den
 unfolding shellExact
 shell-den W Av D p = omega arith
 
-pub shell-rounded : (W Av D : ℕ) → 0 < D → AtMost (shellExact W Av D) (shellExact W Av D .den) (shellWeight W Av D)
+pub shell-rounded : (W Av D : ℕ) → 0 < D → AtMost (shellExact W Av D) (whole 1) (shellWeight W Av D)
 unfolding shellExact shellWeight
 shell-rounded W Av D p = rounded-down (shellExact W Av D) (shell-den W Av D p)
 
-pub cap-rounded : (H D : ℕ) → AtMost (capExact H D) 11250 (bottomCap H D)
+pub cap-rounded : (H D : ℕ) → AtMost (capExact H D) (whole 1) (bottomCap H D)
 unfolding capExact bottomCap
 cap-rounded H D = rounded-down (capExact H D) (omega arith)
 
 -- with fields in range the number under the root fits 64 bits
-pub root-fits : (tb Fy H : ℕ) → tb ≤ 500 → In 6 Fy → In 2 H → rootMost tb Fy H < 2 ^ 64
+pub root-fits : (tb Fy H : ℕ) → tb ≤ mostPlate → Fy ≤ mostYield → In 2 H → rootMost tb Fy H < 2 ^ 64
 unfolding rootMost
 root-fits tb Fy H t f h =
-    lt-of-le-of-lt (mul-le-mul (mul-le-mul (mul-le-mul {n₂ = 3120500} (omega arith) t) (f .1)) (h .1)) (lit< tt)
+    lt-of-le-of-lt (mul-le-mul (mul-le-mul (mul-le-mul {n₂ = 3120500} (omega arith) t) f) (h .1)) (lit< tt)
 
 -- ---- the arithmetic of T, over plain numbers: D2 is D × D, wt is wn / wd rounded down, and most and cap bound wL
 
@@ -46,7 +47,7 @@ module _ (a b D2 wn wd wt wL T : ℕ) where
   bears h t w = omega (arith, mul-le-mul-right wd h, mul-le-mul-right (b * wd) t, mul-le-mul-right (b * D2) w)
 
   exceeds : 0 < b → 0 < wd → T * b ≤ a → D2 * (wt + wL) < T * 144000000 + 144000000 → wn < wt * wd + wd
-      → wn * (72000000 * b * D2) + 72000000 * b * D2 * wd * (wL + 1) < 144000000 * (72000000 * a + b * (D2 + 72000000)) * wd
+      → wn * (b * 72000000 * D2) + b * 72000000 * D2 * wd * (wL + 1) < 144000000 * (a * 72000000 + (D2 + 72000000) * b) * wd
   exceeds p q h t w =
       omega (arith, mul-le-mul-right wd h, mul-le-mul-right (b * wd) t, mul-le-mul-right (b * D2) w, mul-pos p q)
 
@@ -108,9 +109,9 @@ module _ (W Av D H tb Fy : ℕ) (d : 0 < D) (fits : rootMost tb Fy H < 2 ^ 64) (
       (down-safe (D * D * sum) 144000000 (omega arith)) (shell-rounded W Av D d .safe))
       (below-cap D H tb Fy fits) (below-root D H tb Fy fits)
 
-  pub resistance-near : 0 < f .den → Resists W Av D H tb Fy (plusMargin D f)
+  pub resistance-near : 0 < f .den → Resists W Av D H tb Fy (plus f (resistanceMargin D))
       → f .num < resistanceOf D (shellWeight W Av D) (bottomWeight tb Fy H D) * f .den
-  unfolding Resists plusMargin resistanceOf capExact
+  unfolding Resists resistanceMargin resistanceOf capExact
   resistance-near p k = go (decLe (T * f .den) (f .num))
     where
       wt : Ratio
@@ -130,5 +131,5 @@ module _ (W Av D H tb Fy : ℕ) (d : 0 < D) (fits : rootMost tb Fy H < 2 ^ 64) (
       go (yes l) =
           absurd (carried-near _ _ _ w _ _ (mul-pos (mul-pos (omega arith) (mul-pos d d)) wd)
           (exceeds (f .num) (f .den) (D * D) (wt .num) (wt .den) (shellWeight W Av D) w T p wd l
-          (down-near (D * D * (shellWeight W Av D + w)) 144000000 (omega arith)) (shell-rounded W Av D d .near))
+          (down-near (D * D * (shellWeight W Av D + w)) 144000000 (omega arith)) (omega (arith, shell-rounded W Av D d .near)))
           (near-one D H tb Fy fits) k)

@@ -5,15 +5,12 @@ use Prim.Native.Nat.{ℕ, _+_, _*_, _≤_, _<_}
 use native.Mathlib.Nat.{mul-pos}
 use native.Mathlib.Omega.{arith}
 use Rattle.exact.specs.Quotient.{AtLeast}
-use Rattle.exact.proofs.QuotientLaws.{up-safe, up-near}
+use Rattle.exact.proofs.QuotientLaws.{rounded-up}
 use Rattle.rules.specs.Hoop.{hoopExact, hoopNeed, plateMargin, plateFloor, requiredPlate}
 
-pub hoop-rounded : (h D s E : ℕ) → 0 < s → 0 < E
-    → AtLeast (hoopExact h D s E) (plateMargin * hoopExact h D s E .den) (hoopNeed h D s E)
+pub hoop-rounded : (h D s E : ℕ) → 0 < s → 0 < E → AtLeast (hoopExact h D s E) plateMargin (hoopNeed h D s E)
 unfolding hoopExact hoopNeed plateMargin
-hoop-rounded h D s E p q =
-    let pos : 0 < 72 * s * E = mul-pos (omega arith) q in
-    record { safe = up-safe (13 * h * D) (72 * s * E) pos; near = omega (arith, up-near (13 * h * D) (72 * s * E) pos) }
+hoop-rounded h D s E p q = rounded-up (hoopExact h D s E) (mul-pos (omega arith) q)
 
 pub required-meets : (need c D t : ℕ) → requiredPlate need c D ≤ t → (need + c ≤ t) × (plateFloor D ≤ t)
 unfolding requiredPlate

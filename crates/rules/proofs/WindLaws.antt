@@ -6,14 +6,14 @@ use mathlib.Core.Bool.{Bool, true, false, cond}
 use Prim.Native.Nat.{ℕ, _+_, _*_, _≤_, _<_}
 use native.Mathlib.Nat.{mul-le-mul-right}
 use native.Mathlib.Omega.{arith}
-use Rattle.exact.specs.Quotient.{AtLeast, upOf}
+use Rattle.exact.specs.Quotient.{AtLeast, whole, upOf}
 use Rattle.exact.proofs.QuotientLaws.{up-safe, up-near}
 use Rattle.fields.specs.Range.{range, within}
 use Rattle.fields.specs.declared.refusal.Refusal.the-variants.{OutOfRange}
 use Rattle.rules.specs.declared.wind.SitePressure.the-variants.{Given, Refused}
-use Rattle.rules.specs.Wind.{pressureExact, pressureOf, momentExact, momentOf, momentMargin, standardSite, Answer, answerOf}
+use Rattle.rules.specs.Wind.{pressureExact, pressureOf, momentExact, momentOf, momentMargin, standardSite, standardAnswer, said, answerOf}
 
-pub pressure-rounded : (Kz I v : ℕ) → AtLeast (pressureExact Kz I v) 390625 (pressureOf Kz I v)
+pub pressure-rounded : (Kz I v : ℕ) → AtLeast (pressureExact Kz I v) (whole 1) (pressureOf Kz I v)
 unfolding pressureExact pressureOf
 pressure-rounded Kz I v =
     let n = 6 * Kz * I * v * v in
@@ -42,7 +42,7 @@ moment-rounded Kz I v D Hs =
     let P = pressureExact Kz I v .num in
     let r = pressure-rounded Kz I v in
     let above : P ≤ p * 390625 = rw (pressure-den Kz I v) at (r .safe) in
-    let close : p * 390625 < P + 390625 = rw (pressure-den Kz I v) at (r .near) in
+    let close : p * 390625 < P + 390625 = omega (arith, rw (pressure-den Kz I v) at (r .near)) in
     let n = p * D * Hs * Hs in
     let M = upOf n 345600000000 in
     let A = D * Hs * Hs in
@@ -52,13 +52,15 @@ moment-rounded Kz I v D Hs =
       near = omega (arith, through-near P p A M close (omega (arith, up-near n 345600000000 (omega arith))));
     })
 
+pub moment-den : (Kz I v D Hs : ℕ) → 0 < momentExact Kz I v D Hs .den
+unfolding momentExact pressureExact
+moment-den Kz I v D Hs = omega arith
+
 -- what the standard site's answer says: the pressure, or refusal 16 with field 7
-pub standard-says : (v : ℕ)
-    → answerOf (standardSite v) ≡ cond (within (range 7) v) (record { number = 0; value = pressureOf 109 115 v }) (record { number = 16; value = 7 })
-unfolding standardSite
+pub standard-says : (v : ℕ) → answerOf (standardSite v) ≡ standardAnswer v
+unfolding standardSite standardAnswer
 standard-says v = go (within (range 7) v)
   where
-    go : (b : Bool) → answerOf (cond b (Given (pressureOf 109 115 v)) (Refused (OutOfRange 7)))
-        ≡ cond b (record { number = 0; value = pressureOf 109 115 v }) (record { number = 16; value = 7 })
+    go : (b : Bool) → answerOf (cond b (Given (pressureOf 109 115 v)) (Refused (OutOfRange 7))) ≡ cond b (said 0 (pressureOf 109 115 v)) (said 16 7)
     go true = refl
     go false = refl

@@ -1,27 +1,38 @@
--- The greatest that each figure can be with fields in range. A rule asks for these of the figures it is handed, and `proofs/Bounds.antt`
+-- An upper bound of each figure with fields in range. A rule asks for these of the figures that it is handed, and `proofs/Bounds.antt`
 -- shows them of the rules' own figures; with them no product leaves 64 bits and no side of a comparison reaches 2 ^ 53.
 use Prim.Native.Nat.{ℕ}
+use Rattle.fields.specs.Range.{range}
 
--- the greatest hoop need (mils), and required plate: that with the greatest allowance
+-- water level, shell height and head
+abbrev pub mostHeight : ℕ
+mostHeight = range 2 .greatest
+
+-- bottom plate net of its allowance, and its yield
+abbrev pub mostPlate : ℕ
+mostPlate = range 4 .greatest
+
+abbrev pub leastYield : ℕ
+leastYield = range 6 .least
+
+abbrev pub mostYield : ℕ
+mostYield = range 6 .greatest
+
+-- hoop need, and required plate: that with the greatest allowance (mils)
 abbrev pub mostNeed : ℕ
 mostNeed = 6656
 
 abbrev pub mostRequired : ℕ
 mostRequired = 6906
 
--- the greatest wind pressure (hundredths of a psf)
+-- wind pressure (hundredths of a psf)
 abbrev pub mostPressure : ℕ
 mostPressure = 6480
 
--- the greatest moment (foot-pounds): that of field 11, which the wind's stays below
+-- overturning moment (foot-pounds), of wind or earthquake
 abbrev pub mostMoment : ℕ
-mostMoment = 1000000000
+mostMoment = range 11 .greatest
 
--- the greatest shell height, water level and head
-abbrev pub mostHeight : ℕ
-mostHeight = 76800
-
--- the greatest wt and wL (hundredths of a pound per foot), and T (foot-pounds)
+-- wt and wL (hundredths of a pound per foot), and T (foot-pounds)
 abbrev pub mostShell : ℕ
 mostShell = 31830985
 
@@ -31,6 +42,9 @@ mostBottom = 1638400
 abbrev pub mostResistance : ℕ
 mostResistance = 13387754000
 
--- the greatest pull of an anchor (pounds)
+-- pull of an anchor (pounds), and stress area of a bolt (thousandths of a square inch)
 abbrev pub mostPull : ℕ
 mostPull = 800000000000
+
+abbrev pub mostArea : ℕ
+mostArea = 2500

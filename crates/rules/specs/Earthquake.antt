@@ -1,12 +1,14 @@
 -- Earthquake overturning of a self-anchored tank: document 01, "The rules" (AWWA D100, Section 13). Weights in hundredths of a pound per
 -- foot of shell, resistance in foot-pounds.
 use mathlib.Core.Bool.{Bool, true, false, cond}
+use mathlib.Core.List.{List}
 use mathlib.Core.Logic.{_⊎_}
 use Prim.Native.Nat.{ℕ, _+_, _-_, _*_, min, _≤_}
 use lib.Dec.{leb}
 use Rattle.exact.specs.Quotient.{Ratio, downOf}
 use Rattle.exact.specs.Root.{rootOf}
 use Rattle.rules.specs.Verdict.{verdictOf}
+use Rattle.rules.specs.Words.{none-word, lift-word, over-word}
 use Rattle.rules.specs.declared.verdict.Verdict.{Verdict}
 use Rattle.rules.specs.declared.earthquake.Uplift.{Uplift}
 use Rattle.rules.specs.declared.earthquake.Uplift.the-variants.{None, Lift, Over}
@@ -18,7 +20,8 @@ shellExact W Av D = record { num = 2712000 * W * (10000 - 4 * Av); den = 710000 
 unfoldable pub shellWeight : ℕ → ℕ → ℕ → ℕ
 shellWeight W Av D = let f = shellExact W Av D in downOf (f .num) (f .den)
 
--- wL, the water that the bottom annulus holds down with: the smaller of a root and a cap. tb is the bottom plate less its allowance.
+-- wL, the weight of the water over the bottom annulus that resists overturning: the smaller of a root and a cap. tb is the bottom plate
+-- less its allowance.
 -- The root: the greatest whole n with 12,000,000 × n × n at most this.
 unfoldable pub rootMost : ℕ → ℕ → ℕ → ℕ
 rootMost tb Fy H = 6241 * tb * tb * Fy * H
@@ -44,7 +47,16 @@ resistanceOf D wt wL = downOf (D * D * (wt + wL)) 144000000
 unfoldable pub upliftOf : ℕ → ℕ → Uplift
 upliftOf Ms T = cond (leb (1000 * Ms) (785 * T)) None (cond (leb (1000 * Ms) (1540 * T)) Lift Over)
 
--- What each case of it says of the check: it holds unless over.
+-- What each case of it is called on paper,
+abbrev pub upliftWord : Uplift → List ℕ
+upliftWord None = none-word
+upliftWord Lift = lift-word
+upliftWord Over = over-word
+
+unfoldable pub liftWord : ℕ → ℕ → List ℕ
+liftWord Ms T = cond (leb (1000 * Ms) (785 * T)) none-word (cond (leb (1000 * Ms) (1540 * T)) lift-word over-word)
+
+-- and says of the check: it holds unless over.
 abbrev pub stands : Uplift → Bool
 stands None = true
 stands Lift = true
@@ -66,6 +78,6 @@ Resists W Av D H tb Fy f =
     let wt = shellExact W Av D in
     Carried (144000000 * f .num * wt .den) (wt .num * (f .den * (D * D))) (f .den * (D * D) * wt .den) (rootMost tb Fy H) (capExact H D)
 
--- f + m, where the margin m is D × D / 72,000,000 + 1: how far below the unrounded resistance T may be
-unfoldable pub plusMargin : ℕ → Ratio → Ratio
-plusMargin D f = record { num = 72000000 * f .num + f .den * (D * D + 72000000); den = 72000000 * f .den }
+-- the margin of the resistance, D × D / 72,000,000 + 1: T is less than this below the unrounded resistance
+unfoldable pub resistanceMargin : ℕ → Ratio
+resistanceMargin D = record { num = D * D + 72000000; den = 72000000 }

@@ -2,7 +2,9 @@
 use mathlib.Core.Bool.{cond}
 use Prim.Native.Nat.{ℕ, _+_, _-_, _*_, max}
 use lib.Dec.{leb}
-use Rattle.exact.specs.Quotient.{Ratio, upOf}
+use Rattle.exact.specs.Quotient.{Ratio, whole, upOf}
+use Rattle.rules.specs.Verdict.{verdictOf}
+use Rattle.rules.specs.declared.verdict.Verdict.{Verdict}
 
 -- h: the water level H less the height y of the course's bottom edge, or 0
 unfoldable pub headOf : ℕ → ℕ → ℕ
@@ -16,9 +18,9 @@ hoopExact h D s E = record { num = 13 * h * D; den = 72 * s * E }
 unfoldable pub hoopNeed : ℕ → ℕ → ℕ → ℕ → ℕ
 hoopNeed h D s E = let f = hoopExact h D s E in upOf (f .num) (f .den)
 
--- how far above the exact need the rounded one may be
-unfoldable pub plateMargin : ℕ
-plateMargin = 1
+-- the margin of plate, 1: the rounded need is less than this above the exact one
+unfoldable pub plateMargin : Ratio
+plateMargin = whole 1
 
 -- The house floor, by the diameter.
 unfoldable pub plateFloor : ℕ → ℕ
@@ -27,3 +29,7 @@ plateFloor D = cond (leb D 60000) 188 (cond (leb D 144000) 250 313)
 -- The required plate: the need with the allowance c, or the floor, which has no allowance added, if that is larger.
 unfoldable pub requiredPlate : ℕ → ℕ → ℕ → ℕ
 requiredPlate need c D = max (need + c) (plateFloor D)
+
+-- A course holds when its plate t is at least the required one.
+unfoldable pub courseVerdict : ℕ → ℕ → Verdict
+courseVerdict required t = verdictOf required t

@@ -1,3 +1,4 @@
+pub mod Words
 pub mod Verdict
 pub mod Hoop
 pub mod Wind

@@ -1,8 +1,11 @@
 -- A check's verdict: document 01, "Each check says that it holds or falls short together with its use".
 use mathlib.Core.Bool.{Bool, true, false, cond}
+use mathlib.Core.List.{List}
+use mathlib.Core.Path.{_≡_}
 use Prim.Native.Nat.{ℕ}
 use lib.Dec.{leb}
 use lib.Ieee.{Float, binary64, round}
+use Rattle.rules.specs.Words.{ok-word, short-word}
 use Rattle.rules.specs.declared.verdict.Verdict.{Verdict}
 use Rattle.rules.specs.declared.verdict.Verdict.the-variants.{Holds, Short}
 
@@ -14,11 +17,20 @@ useOf need capacity = round binary64 false need capacity
 unfoldable pub verdictOf : ℕ → ℕ → Verdict
 verdictOf need capacity = cond (leb need capacity) (Holds (useOf need capacity)) (Short (useOf need capacity))
 
--- What each case of a verdict says: whether the check holds, and its use.
-abbrev pub holds : Verdict → Bool
-holds (Holds u) = true
-holds (Short u) = false
+-- What each case of a verdict says on paper: its word and its use; and whether the check holds.
+abbrev pub verdictWord : Verdict → List ℕ
+verdictWord (Holds u) = ok-word
+verdictWord (Short u) = short-word
 
 abbrev pub used : Verdict → Float
 used (Holds u) = u
 used (Short u) = u
+
+abbrev pub holds : Verdict → Bool
+holds (Holds u) = true
+holds (Short u) = false
+
+-- so, of a need and a capacity
+pub record Says (need capacity : ℕ) (v : Verdict) : Type 0 where
+  pub word : verdictWord v ≡ cond (leb need capacity) ok-word short-word
+  pub use-is : used v ≡ useOf need capacity

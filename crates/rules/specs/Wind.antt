@@ -27,19 +27,26 @@ momentExact Kz I v D Hs =
 unfoldable pub momentOf : ℕ → ℕ → ℕ → ℕ
 momentOf p D Hs = upOf (p * D * Hs * Hs) 345600000000
 
--- How far above the exact moment the rounded one may be, D × Hs × Hs / 345,600,000,000 + 1, over the exact moment's divisor.
-unfoldable pub momentMargin : ℕ → ℕ → ℕ
-momentMargin D Hs = 390625 * (D * Hs * Hs + 345600000000)
+-- the margin of the moment, D × Hs × Hs / 345,600,000,000 + 1: the rounded moment is less than this above the exact one
+unfoldable pub momentMargin : ℕ → ℕ → Ratio
+momentMargin D Hs = record { num = D * Hs * Hs + 345600000000; den = 345600000000 }
 
 -- The standard site: Kz 109, I 115. Its pressure is asked by speed; a speed outside the range of field 7 is refused 16 with that field.
 unfoldable pub standardSite : ℕ → SitePressure
 standardSite v = cond (within (range 7) v) (Given (pressureOf 109 115 v)) (Refused (OutOfRange 7))
 
--- What each case of the answer says: 0 and the pressure, or the refusal's number and field.
+-- What each case of the answer says on paper: 0 and the pressure, or the refusal's number and field.
 pub record Answer : Type 0 where
   pub number : ℕ
   pub value : ℕ
 
+abbrev pub said : ℕ → ℕ → Answer
+said n x = record { number = n; value = x }
+
 abbrev pub answerOf : SitePressure → Answer
-answerOf (Given p) = record { number = 0; value = p }
-answerOf (Refused r) = record { number = paperOf r .number; value = paperOf r .field }
+answerOf (Given p) = said 0 p
+answerOf (Refused r) = said (paperOf r .number) (paperOf r .field)
+
+-- so, of the standard site: its pressure, or 16 with field 7
+unfoldable pub standardAnswer : ℕ → Answer
+standardAnswer v = cond (within (range 7) v) (said 0 (pressureOf 109 115 v)) (said 16 7)

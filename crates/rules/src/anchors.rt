@@ -4,8 +4,8 @@ ghost use Prim.Native.Nat.{_≤_, _<_};
 ghost use lib.IntN.{pos};
 ghost use lib.Signed.{_≤ℤ_};
 ghost use Rattle.fields.specs.Range.{In};
-ghost use Rattle.rules.specs.Bounds.{mostMoment, mostPull};
-ghost use Rattle.rules.specs.Anchors.{pullOf, orZero, largerPull, spacingVerdict, strengthVerdict, windVerdict};
+ghost use Rattle.rules.specs.Bounds.{mostArea, mostMoment, mostPull};
+ghost use Rattle.rules.specs.Anchors.{pullOf, largerPull, spacingVerdict, strengthVerdict, windVerdict};
 use crate::verdict::Verdict;
 use crate::verdict::judged;
 
@@ -24,23 +24,14 @@ pub fn pull(moment: u64, weight: u32, circle: u32, count: u32) -> i64
     exact::up_signed(up as i64 - down as i64, den as i64)
 }
 
-// The larger of two pulls, or 0 if it is negative.
+// What the strength rule takes of two pulls: the larger, or 0 if that is negative.
 pub fn larger(wind: i64, quake: i64) -> u64
     ensures { λ r. ⌜ r ≡ largerPull wind quake ⌝ }
 {
     if wind < quake {
-        return or_zero(quake);
+        return exact::positive_part(quake);
     }
-    or_zero(wind)
-}
-
-fn or_zero(pull: i64) -> u64
-    ensures { λ r. ⌜ r ≡ orZero pull ⌝ }
-{
-    if pull < 0 {
-        return 0;
-    }
-    exact::magnitude(pull)
+    exact::positive_part(wind)
 }
 
 // Whether the anchors stand close enough.
@@ -56,7 +47,7 @@ pub fn spacing(circle: u32, count: u32) -> Verdict
 pub fn strength(pull: u64, area: u32) -> Verdict
     requires { ⌜ pull ≤ mostPull ⌝ }
     requires { ⌜ 0 < area ⌝ }
-    requires { ⌜ area ≤ 2500 ⌝ }
+    requires { ⌜ area ≤ mostArea ⌝ }
     ensures { λ r. ⌜ r ≡ strengthVerdict pull area ⌝ }
 {
     judged(1000 * pull, 19950 * area as u64)

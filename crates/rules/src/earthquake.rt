@@ -2,8 +2,8 @@
 ghost use mathlib.Core.Path.{_≡_};
 ghost use Prim.Native.Nat.{_≤_, _<_};
 ghost use Rattle.fields.specs.Range.{In};
-ghost use Rattle.rules.specs.Bounds.{mostShell, mostBottom, mostResistance};
-ghost use Rattle.rules.specs.Earthquake.{shellWeight, bottomRoot, bottomCap, bottomWeight, resistanceOf, upliftOf, quakeVerdict};
+ghost use Rattle.rules.specs.Bounds.{mostPlate, mostYield, mostShell, mostBottom, mostResistance};
+ghost use Rattle.rules.specs.Earthquake.{shellWeight, bottomRoot, bottomCap, bottomWeight, resistanceOf, upliftOf, upliftWord, liftWord, quakeVerdict};
 use crate::verdict::Verdict;
 use crate::verdict::judged;
 
@@ -27,8 +27,8 @@ pub fn shell_weight(weight: u32, vertical: u32, diameter: u32) -> u64
 
 // The root of wL, by the strength of the bottom plate; `plate` is net of its allowance.
 pub fn bottom_root(plate: u32, yield_stress: u32, level: u32) -> u64
-    requires { ⌜ plate ≤ 500 ⌝ }
-    requires { ⌜ In 6 «yield_stress» ⌝ }
+    requires { ⌜ plate ≤ mostPlate ⌝ }
+    requires { ⌜ «yield_stress» ≤ mostYield ⌝ }
     requires { ⌜ In 2 level ⌝ }
     ensures { λ r. ⌜ r ≡ bottomRoot plate «yield_stress» level ⌝ }
 {
@@ -48,10 +48,11 @@ pub fn bottom_cap(level: u32, diameter: u32) -> u64
     exact::down(level as u64 * diameter as u64, 11250)
 }
 
-// wL: the water that holds the edge of the bottom down, in hundredths of a pound per foot of shell.
+// wL: the weight of the water over the bottom annulus that resists overturning, in hundredths of a
+// pound per foot of shell.
 pub fn bottom_weight(plate: u32, yield_stress: u32, level: u32, diameter: u32) -> u64
-    requires { ⌜ plate ≤ 500 ⌝ }
-    requires { ⌜ In 6 «yield_stress» ⌝ }
+    requires { ⌜ plate ≤ mostPlate ⌝ }
+    requires { ⌜ «yield_stress» ≤ mostYield ⌝ }
     requires { ⌜ In 2 level ⌝ }
     requires { ⌜ In 1 diameter ⌝ }
     ensures { λ r. ⌜ r ≡ bottomWeight plate «yield_stress» level diameter ⌝ }
@@ -80,6 +81,7 @@ pub fn uplift_of(moment: u32, resistance: u64) -> Uplift
     requires { ⌜ In 11 moment ⌝ }
     requires { ⌜ resistance ≤ mostResistance ⌝ }
     ensures { λ r. ⌜ r ≡ upliftOf moment resistance ⌝ }
+    ensures { λ r. ⌜ upliftWord r ≡ liftWord moment resistance ⌝ }
 {
     let need = 1000 * moment as u64;
     if need <= 785 * resistance {

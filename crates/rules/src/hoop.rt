@@ -3,8 +3,7 @@ ghost use mathlib.Core.Path.{_≡_};
 ghost use Prim.Native.Nat.{_≤_};
 ghost use Rattle.fields.specs.Range.{In};
 ghost use Rattle.rules.specs.Bounds.{mostHeight, mostNeed, mostRequired};
-ghost use Rattle.rules.specs.Hoop.{headOf, hoopNeed, plateFloor, requiredPlate};
-ghost use Rattle.rules.specs.Verdict.{verdictOf};
+ghost use Rattle.rules.specs.Hoop.{headOf, hoopNeed, plateFloor, requiredPlate, courseVerdict};
 use crate::verdict::Verdict;
 use crate::verdict::judged;
 
@@ -42,7 +41,7 @@ pub fn floor(diameter: u32) -> u64
     }
 }
 
-// The required plate: the need and the allowance, or the floor.
+// The required plate: the need with the allowance or the floor, whichever is larger.
 pub fn required(need: u64, allowance: u32, diameter: u32) -> u64
     requires { ⌜ need ≤ mostNeed ⌝ }
     requires { ⌜ In 17 allowance ⌝ }
@@ -60,7 +59,7 @@ pub fn required(need: u64, allowance: u32, diameter: u32) -> u64
 pub fn check(required: u64, plate: u32) -> Verdict
     requires { ⌜ required ≤ mostRequired ⌝ }
     requires { ⌜ In 16 plate ⌝ }
-    ensures { λ r. ⌜ r ≡ verdictOf required plate ⌝ }
+    ensures { λ r. ⌜ r ≡ courseVerdict required plate ⌝ }
 {
     judged(required, plate as u64)
 }

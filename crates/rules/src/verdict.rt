@@ -1,9 +1,9 @@
 // Whether a check holds, with its use.
 ghost use mathlib.Core.Path.{_≡_};
 ghost use Rattle.exact.specs.Sides.{Sides};
-ghost use Rattle.rules.specs.Verdict.{verdictOf};
+ghost use Rattle.rules.specs.Verdict.{verdictOf, Says};
 
-// A check's word with its use, need over capacity.
+// Whether the check holds or falls short, with its use.
 pub enum Verdict {
     Holds(f64),
     Short(f64),
@@ -12,6 +12,7 @@ pub enum Verdict {
 pub fn judged(need: u64, capacity: u64) -> Verdict
     requires { ⌜ Sides need capacity ⌝ }
     ensures { λ r. ⌜ r ≡ verdictOf need capacity ⌝ }
+    ensures { λ r. ⌜ Says need capacity r ⌝ }
 {
     let quotient = exact::nearest(need, capacity);
     if need <= capacity {

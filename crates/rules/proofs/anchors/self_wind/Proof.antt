@@ -18,7 +18,7 @@ judged-requires c κs =
 
 returns : tie.Need-returns
 unfolding windVerdict
-returns c = c .judged .ensures
+returns c = c .judged .ensures .0
 
 pub self-wind-spec : {M : Type 1} → statement M
 self-wind-spec = tie.close (tie.spec mul-judged mul-judged-2 judged-requires returns)

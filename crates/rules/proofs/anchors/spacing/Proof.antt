@@ -16,7 +16,7 @@ judged-requires c κs = spacing-sides _ _ (c .pre .0) (c .pre .1)
 
 returns : tie.Need-returns
 unfolding spacingVerdict
-returns c = c .judged .ensures
+returns c = c .judged .ensures .0
 
 pub spacing-spec : {M : Type 1} → statement M
 spacing-spec = tie.close (tie.spec mul-judged mul-judged-2 judged-requires returns)

@@ -14,11 +14,11 @@ mul-greatest-root-2 : tie.Need-mul-greatest-root-2
 mul-greatest-root-2 c = mul-fits {A = 3120500} (omega arith) (c .pre .0) tt
 
 mul-greatest-root-3 : tie.Need-mul-greatest-root-3
-mul-greatest-root-3 c = mul-fits (mul-le-mul {n₂ = 3120500} (omega arith) (c .pre .0)) (c .pre .1 .0 .1) tt
+mul-greatest-root-3 c = mul-fits (mul-le-mul {n₂ = 3120500} (omega arith) (c .pre .0)) (c .pre .1 .0) tt
 
 mul-greatest-root-4 : tie.Need-mul-greatest-root-4
 mul-greatest-root-4 c =
-    mul-fits (mul-le-mul (mul-le-mul {n₂ = 3120500} (omega arith) (c .pre .0)) (c .pre .1 .0 .1)) (c .pre .1 .1 .1) tt
+    mul-fits (mul-le-mul (mul-le-mul {n₂ = 3120500} (omega arith) (c .pre .0)) (c .pre .1 .0)) (c .pre .1 .1 .1) tt
 
 greatest-root-requires : tie.Need-greatest-root-requires
 greatest-root-requires c κs = search needs

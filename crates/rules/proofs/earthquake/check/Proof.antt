@@ -16,7 +16,7 @@ judged-requires c κs = quake-sides _ _ (c .pre .0) (c .pre .1 .0) (c .pre .1 .1
 
 returns : tie.Need-returns
 unfolding quakeVerdict
-returns c = c .judged .ensures
+returns c = c .judged .ensures .0
 
 pub check-spec : {M : Type 1} → statement M
 check-spec = tie.close (tie.spec mul-judged mul-judged-2 judged-requires returns)

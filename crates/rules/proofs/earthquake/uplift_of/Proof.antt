@@ -1,9 +1,17 @@
 -- `rules::earthquake::uplift_of` meets its contract: each return knows the tests that led to it. Assumes nothing.
+use mathlib.Core.Path.{_≡_, ap, _∙_}
+use Prim.Native.Nat.{ℕ}
 use borrow.Author.Needs.{needs}
 use borrow.Author.Tests.{le-leb, lt-leb}
-use Rattle.rules.specs.Earthquake.{upliftOf}
+use Rattle.rules.specs.Earthquake.{upliftOf, upliftWord, liftWord}
+use Rattle.rules.specs.declared.earthquake.Uplift.{Uplift}
+use Rattle.rules.proofs.VerdictLaws.{uplift-says}
 use Rattle.rules.proofs.earthquake.uplift_of.Statement.{statement}
 use Rattle.rules.proofs.earthquake.uplift_of.Tie as tie
+
+-- what is the uplift has its word
+told : (Ms T : ℕ) {u : Uplift} → u ≡ upliftOf Ms T → (u ≡ upliftOf Ms T) × (upliftWord u ≡ liftWord Ms T)
+told Ms T e = (e, ap upliftWord e ∙ uplift-says Ms T)
 
 mul-need : tie.Need-mul-need
 mul-need c = search needs
@@ -13,18 +21,18 @@ mul-if1 c = search needs
 
 returns : tie.Need-returns
 unfolding upliftOf
-returns c = rw (le-leb _ _ (c .if1 .taken))
+returns c = told (c .before .args .moment) (c .before .args .resistance) (rw (le-leb _ _ (c .if1 .taken)))
 
 mul-if2 : tie.Need-mul-if2
 mul-if2 c = search needs
 
 returns-2 : tie.Need-returns-2
 unfolding upliftOf
-returns-2 c = rw (lt-leb _ _ (c .before .if1 .left), le-leb _ _ (c .if2 .taken))
+returns-2 c = let a = c .before .before .args in told (a .moment) (a .resistance) (rw (lt-leb _ _ (c .before .if1 .left), le-leb _ _ (c .if2 .taken)))
 
 returns-3 : tie.Need-returns-3
 unfolding upliftOf
-returns-3 c = rw (lt-leb _ _ (c .before .if1 .left), lt-leb _ _ (c .if2 .left))
+returns-3 c = let a = c .before .before .args in told (a .moment) (a .resistance) (rw (lt-leb _ _ (c .before .if1 .left), lt-leb _ _ (c .if2 .left)))
 
 pub uplift-of-spec : {M : Type 1} → statement M
 uplift-of-spec = tie.close (tie.spec mul-need mul-if1 returns mul-if2 returns-2 returns-3)

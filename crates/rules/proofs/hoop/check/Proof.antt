@@ -1,5 +1,5 @@
 -- `rules::hoop::check` meets its contract. Assumes nothing.
-use borrow.Author.Needs.{needs}
+use Rattle.rules.specs.Hoop.{courseVerdict}
 use Rattle.rules.proofs.Bounds.{course-sides}
 use Rattle.rules.proofs.hoop.check.Statement.{statement}
 use Rattle.rules.proofs.hoop.check.Tie as tie
@@ -8,7 +8,8 @@ judged-requires : tie.Need-judged-requires
 judged-requires c κs = course-sides _ _ (c .pre .0) (c .pre .1)
 
 returns : tie.Need-returns
-returns c = search needs
+unfolding courseVerdict
+returns c = c .judged .ensures .0
 
 pub check-spec : {M : Type 1} → statement M
 check-spec = tie.close (tie.spec judged-requires returns)

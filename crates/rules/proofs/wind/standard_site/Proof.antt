@@ -12,8 +12,10 @@ use Rattle.exact.specs.Quotient.{upOf}
 use Rattle.exact.proofs.Table.{at-each}
 use Rattle.fields.specs.Range.{range, within, In}
 use Rattle.fields.proofs.RangeLaws.{in-of-within}
-use Rattle.rules.specs.Wind.{pressureOf, standardSite}
+use Rattle.rules.specs.Wind.{pressureOf, standardSite, standardAnswer, answerOf}
+use Rattle.rules.specs.declared.wind.SitePressure.{SitePressure}
 use Rattle.rules.specs.declared.wind.SitePressure.the-variants.{Given}
+use Rattle.rules.proofs.WindLaws.{standard-says}
 use Rattle.rules.proofs.wind.standard_site.Statement.{statement}
 use Rattle.rules.proofs.wind.standard_site.Tie as tie
 
@@ -33,12 +35,16 @@ charted v h =
     let back : 60 + (v - 60) ≡ v = omega arith in
     chart-at (v - 60) (omega arith) ∙ ap (pressureOf 109 115) back
 
+-- what is the answer says what the answer says
+told : (v : ℕ) {a : SitePressure} → a ≡ standardSite v → (a ≡ standardSite v) × (answerOf a ≡ standardAnswer v)
+told v e = (e, ap answerOf e ∙ standard-says v)
+
 in-range-requires : tie.Need-in-range-requires
 in-range-requires c κs = search needs
 
 returns : tie.Need-returns
 unfolding standardSite
-returns c = rw (sym (c .before .in-range .ensures) ∙ not-true _ (c .if1 .taken))
+returns c = told (c .before .before .args .speed) (rw (sym (c .before .in-range .ensures) ∙ not-true _ (c .if1 .taken)))
 
 sub-k : tie.Need-sub-k
 sub-k c = in-chart _ _ (c .before .in-range .ensures) (c .if1 .left) .0
@@ -56,7 +62,7 @@ returns-2 : tie.Need-returns-2
 unfolding chart standardSite
 returns-2 c =
     let e = c .before .in-range .ensures in
-    rw (sym e ∙ not-false _ (c .if1 .left)) (ap Given (charted _ (in-chart _ _ e (c .if1 .left))))
+    told (c .before .before .args .speed) (rw (sym e ∙ not-false _ (c .if1 .left)) (ap Given (charted _ (in-chart _ _ e (c .if1 .left)))))
 
 pub standard-site-spec : {M : Type 1} → statement M
 standard-site-spec =

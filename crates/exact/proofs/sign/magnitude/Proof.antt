@@ -1,4 +1,4 @@
--- `exact::quotient::magnitude` meets its contract: below 0, with z = -(n + 1), the code takes n = -(z + 1) and adds 1.
+-- `exact::sign::magnitude` meets its contract: below 0, with z = -(n + 1), the code takes n = -(z + 1) and adds 1.
 -- Assumes nothing.
 use mathlib.Core.Path.{_≡_, ap, _∙_}
 use Prim.Native.Nat.{ℕ, _+_, _^_, _<_}
@@ -12,8 +12,8 @@ use mir.Val.{Fits, SFits, toZ, ofZ}
 use mir.Facts.{toZ-ofZ}
 use mir.ValLaws.{sfits-le}
 use Rattle.exact.proofs.SignedLaws.{below-zero, castable, one-more, opposite, neg-size}
-use Rattle.exact.proofs.quotient.magnitude.Statement.{statement}
-use Rattle.exact.proofs.quotient.magnitude.Tie as tie
+use Rattle.exact.proofs.sign.magnitude.Statement.{statement}
+use Rattle.exact.proofs.sign.magnitude.Tie as tie
 
 -- what the machine computes on the way
 next : ℤ → ℤ

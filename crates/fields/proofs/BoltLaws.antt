@@ -1,0 +1,41 @@
+-- A size that is in the chart has a stress area above 0, and no size has more than 2,500.
+-- Assumes nothing.
+use mathlib.Core.Bool.{Bool, true, false, cond, _&&_, _||_}
+use mathlib.Core.List.{List, [], _∷_}
+use Prim.Native.Nat.{ℕ, _≤_, _<_}
+use native.Mathlib.Omega.{arith}
+use lib.Dec.{T, leb, ltb, eqb, leb→le, ltb→lt}
+use Rattle.exact.proofs.Table.{first, second}
+use Rattle.fields.specs.Bolt.{Bolt, chart, areaIn, sizeIn, inChart, stressArea}
+
+-- the test of one bolt, an area from 1 to 2,500, and of all
+abbrev fair : Bolt → Bool
+fair b = ltb 0 (b .area) && leb (b .area) 2500
+
+abbrev all-fair : List Bolt → Bool
+all-fair [] = true
+all-fair (b ∷ bs) = fair b && all-fair bs
+
+above : (bs : List Bolt) (d : ℕ) → T (all-fair bs) → T (sizeIn bs d) → 0 < areaIn bs d
+above [] d s t = absurd t
+above (b ∷ bs) d s t = go (eqb d (b .size)) t (above bs d (second (fair b) (all-fair bs) s))
+  where
+    go : (e : Bool) → T (e || sizeIn bs d) → (T (sizeIn bs d) → 0 < areaIn bs d) → 0 < cond e (b .area) (areaIn bs d)
+    go true t r = ltb→lt 0 (b .area) (first (ltb 0 (b .area)) (leb (b .area) 2500) (first (fair b) (all-fair bs) s))
+    go false t r = r t
+
+most : (bs : List Bolt) (d : ℕ) → T (all-fair bs) → areaIn bs d ≤ 2500
+most [] d s = omega arith
+most (b ∷ bs) d s = go (eqb d (b .size)) (most bs d (second (fair b) (all-fair bs) s))
+  where
+    go : (e : Bool) → areaIn bs d ≤ 2500 → cond e (b .area) (areaIn bs d) ≤ 2500
+    go true r = leb→le (b .area) 2500 (second (ltb 0 (b .area)) (leb (b .area) 2500) (first (fair b) (all-fair bs) s))
+    go false r = r
+
+pub stress-area-above : (d : ℕ) → T (inChart d) → 0 < stressArea d
+unfolding inChart stressArea
+stress-area-above d t = above chart d tt t
+
+pub stress-area-most : (d : ℕ) → stressArea d ≤ 2500
+unfolding stressArea
+stress-area-most d = most chart d tt

@@ -1,0 +1,761 @@
+"""The leaf vectors: lines `LEAF A B C D` for the program under test, and its expected lines.
+
+Each leaf has the domain of its arguments, its answer (from document.py), document
+01's own figures for it, and its edges: points at equality or at a whole quotient
+with those one to either side. The two ends of each range, combined, and random
+points with a fixed seed come from the domain.
+"""
+
+from fractions import Fraction
+from itertools import product
+from math import ceil, floor, gcd, prod
+from random import Random
+from typing import Callable, NamedTuple
+
+import document as doc
+
+MOST_STDIN_BYTES = 500_000
+ARGUMENTS = 4          # on a line; the unused ones are 0
+RANDOM_POINTS = 220    # new ones for each leaf
+USUAL_POINTS = 60      # more of them, where only a part of the domain is of interest
+EDGE_DRAWS = 30        # for each kind of edge
+WHOLE_DOMAIN = 400     # a domain up to this size is taken whole
+
+# --- Ranges -------------------------------------------------------------------
+
+SIGN = (0, 1)                               # 1 means minus
+U32 = (0, 2**32 - 1)
+WORD = (0, 18_446_744_073_709_551_609)      # "all below 18446744073709551610"
+SIZE = (0, 2**63 - 1)
+SIDE = (0, doc.SIDE_LIMIT - 1)              # of a comparison
+
+
+def from_one(limits):
+    return 1, limits[1]
+
+
+D, H, W = (doc.FIELD_RANGES[field] for field in (1, 2, 3))
+FY, V, KZ, I, AV, MS = (doc.FIELD_RANGES[field] for field in range(6, 12))
+N, B_FIELD = doc.FIELD_RANGES[12], doc.FIELD_RANGES[13]
+PLATE, C, S, E = (doc.FIELD_RANGES[field] for field in range(16, 20))
+B = from_one(B_FIELD)                       # of an anchored tank
+HEIGHT = (0, 76_800)                        # h, or Hs
+NEED = (0, 6_656)                           # hoop need
+REQUIRED = (0, 6_906)
+P = (0, 6_480)
+MOMENT = (0, 1_000_000_000)
+TB = (0, 500)
+WT = (0, 31_830_985)
+WL = (0, 1_638_400)
+T = (0, 13_387_754_000)
+LEAST_PULL = -1_666_666                     # W greatest, no moment, N 6
+PULL = (0, 800_000_000_000)                 # moment greatest, B 1, N 6
+A = (1, 2_500)
+
+# --- Writing ------------------------------------------------------------------
+
+
+def signed(neg, size):
+    return -size if neg else size
+
+
+def sign_and_size(number):
+    return (1, -number) if number < 0 else (0, number)
+
+
+def decimal(number):
+    return str(number)
+
+
+def yes_or_no(truth):
+    return "yes" if truth else "no"
+
+
+def hexadecimal(bits):
+    return f"{bits:016x}"
+
+
+def verdict_text(verdict):
+    return ("holds " if verdict.holds else "short ") + hexadecimal(verdict.use)
+
+
+def refusal_text(number, field):
+    return f"refused {number} {field}"
+
+
+def standard_site_text(speed):
+    chart = doc.standard_site_chart()
+    if speed not in chart:
+        return refusal_text(doc.FIELD_REFUSAL, doc.WIND_FIELD)
+    return decimal(chart[speed])
+
+
+# --- Making points ------------------------------------------------------------
+
+
+def ends(limits):
+    """The two ends of a range and one inside each, without repeats."""
+    least, greatest = limits
+    inner = (least, least + 1, greatest - 1, greatest)
+    return sorted({figure for figure in inner if least <= figure <= greatest})
+
+
+def even_draw(rng, limits):
+    return rng.randint(*limits)
+
+
+def small_draw(rng, limits):
+    """A figure whose distance from the least has any bit length alike."""
+    least, greatest = limits
+    width = greatest - least
+    distance = rng.getrandbits(rng.randint(0, width.bit_length()))
+    return least + min(distance, width)
+
+
+def round_draw(rng, limits, unit):
+    """A multiple of the unit."""
+    least, greatest = limits
+    return unit * rng.randint(-(-least // unit), greatest // unit)
+
+
+def neighbours(*point):
+    """The point, and with each argument in turn one less and one more."""
+    yield point
+    for place, figure in enumerate(point):
+        for near in (figure - 1, figure + 1):
+            yield point[:place] + (near,) + point[place + 1:]
+
+
+def beside(figure):
+    return figure - 1, figure, figure + 1
+
+
+def whole_at(rng, factor, divisor, limits):
+    """A figure x above 0 in the range, with factor * x / divisor whole; else None."""
+    step = divisor // gcd(factor, divisor)
+    least, greatest = limits
+    fewest, most = max(-(-least // step), 1), greatest // step
+    return step * rng.randint(fewest, most) if fewest <= most else None
+
+
+# --- Edges of the arithmetic leaves -------------------------------------------
+
+
+def division_edges(rng):
+    """Whole quotients with one to either side, small and large; quotients near 1."""
+    for draw in (even_draw, small_draw):
+        for _ in range(EDGE_DRAWS):
+            den = small_draw(rng, from_one(WORD))
+            quotient = draw(rng, (0, WORD[1] // den))
+            for num in beside(den * quotient):
+                yield num, den
+            for num in beside(den):
+                yield num, den
+
+
+def signed_division_edges(rng):
+    for draw in (even_draw, small_draw):
+        for _ in range(EDGE_DRAWS):
+            den = small_draw(rng, from_one(SIZE))
+            quotient = draw(rng, (0, SIZE[1] // den))
+            for neg, size in product(SIGN, (0, *beside(den), *beside(den * quotient))):
+                yield neg, size, den
+
+
+def root_edges(rng):
+    """Perfect squares and their neighbours, up to the largest."""
+    for most in (7_800_000_000_000_000_000, 18_000_000_000_000_000_000, WORD[1]):
+        for factor in (1, 2, 3, 12_000_000):
+            n = doc.greatest_root(factor, most)
+            for square in (factor * n * n, factor * (n - 1) * (n - 1), most):
+                for near in beside(square):
+                    yield factor, near
+        for _ in range(EDGE_DRAWS):
+            factor = small_draw(rng, (1, most))
+            n = even_draw(rng, (0, doc.greatest_root(factor, most)))
+            for near in beside(factor * n * n):
+                yield factor, near
+
+
+def middle_neighbour(capacity, shift, gap):
+    """need with need * 2**shift = capacity * middle + gap, middle being half way between
+    two neighbouring f64 (an odd whole number of 54 bits, over 2**shift); else None."""
+    middle = -gap * pow(capacity, -1, 2**shift) % 2**shift
+    if shift == 53:
+        middle += 2**53
+    if not 2**53 <= middle < 2**54:
+        return None
+    assert middle % 2 == 1 and (capacity * middle + gap) % 2**shift == 0
+    return (capacity * middle + gap) // 2**shift
+
+
+def quotient_edges(rng):
+    """No exact tie exists here: it would be an odd whole number of 54 bits times a power
+    of two, and that number would divide need, which is below 2**53. So these take the
+    points nearest to a tie, on either side of it."""
+    for draw in (even_draw, small_draw):
+        for _ in range(2 * EDGE_DRAWS):
+            capacity = draw(rng, SIDE) | 1
+            for shift, gap in product((53, 54), (-1, 1)):
+                need = middle_neighbour(capacity, shift, gap)
+                if need is not None:
+                    yield need, capacity
+    top = SIDE[1]
+    for near in (1, 2, 3, top // 2, top // 2 + 1, top // 2 + 2, top - 2, top - 1, top):
+        yield near, near            # a use of 1
+        yield near - 1, near        # just below 1
+        yield near + 1, near        # just above 1
+        yield near, top             # down to 1 over nearly 2**53
+        yield near, top - 1
+        yield top, near             # up to nearly 2**53
+        yield top - 1, near
+    for power in range(0, 53, 4):   # powers of two and the quotients beside them
+        for near in beside(2**power):
+            yield near, 2**power
+            yield 2**power, near
+            yield near, top
+    for _ in range(EDGE_DRAWS):     # whole quotients with one to either side
+        capacity = small_draw(rng, from_one(SIDE))
+        quotient = even_draw(rng, (0, SIDE[1] // capacity))
+        for need in beside(capacity * quotient):
+            yield need, capacity
+
+
+def signed_edges(_rng):
+    for neg, size in product(SIGN, (0, 1, 9, 10, 11, 99, 100, 211, 2**31, 2**32, 2**62)):
+        for near in beside(size):
+            yield neg, near
+
+
+# --- Edges of the data leaves -------------------------------------------------
+
+
+def field_edges(_rng):
+    fields = [*range(0, 22), U32[1]]
+    for field in fields:
+        figures = [*range(0, 6), U32[1]]
+        for end in doc.FIELD_RANGES.get(field, (6, 200)):
+            figures += beside(end)
+        for figure in figures:
+            yield field, figure
+
+
+def bolt_edges(_rng):
+    for d in range(0, 34):
+        yield (d,)
+
+
+def refusal_edges(_rng):
+    return ()
+
+
+# --- Edges of the hoop leaves -------------------------------------------------
+
+
+def head_edges(rng):
+    for draw in (even_draw, small_draw):
+        for _ in range(EDGE_DRAWS):
+            level = draw(rng, U32)
+            yield from neighbours(level, level)
+
+
+def hoop_need_edges(rng):
+    for _ in range(2 * EDGE_DRAWS):
+        diameter = round_draw(rng, D, 1_200)
+        s = round_draw(rng, S, 1_000)
+        efficiency = round_draw(rng, E, 5)
+        h = whole_at(rng, 13 * diameter, 72 * s * efficiency, HEIGHT)
+        if h is not None:
+            yield from neighbours(h, diameter, s, efficiency)
+
+
+FLOOR_BOUNDARIES = (60_000, 144_000)
+
+
+def floor_edges(_rng):
+    for boundary in FLOOR_BOUNDARIES:
+        for diameter in range(boundary - 5, boundary + 6):
+            yield (diameter,)
+    for end in D:
+        for diameter in beside(end):
+            yield (diameter,)
+
+
+def required_edges(rng):
+    """need plus c at the floor, and the floor's own boundaries."""
+    for diameter in (*D, *(near for boundary in FLOOR_BOUNDARIES for near in beside(boundary))):
+        for _ in range(6):
+            c = even_draw(rng, (0, 188))
+            for need in beside(doc.house_floor(diameter) - c):
+                yield need, c, diameter
+
+
+def course_verdict_edges(rng):
+    for t in (*PLATE, 188, 250, 313, *(even_draw(rng, PLATE) for _ in range(EDGE_DRAWS))):
+        yield from neighbours(t, t)
+
+
+# --- Edges of the wind leaves -------------------------------------------------
+
+
+def pressure_edges(rng):
+    # 6 Kz I V V / 390,625 is 1,800 exactly
+    yield from neighbours(75, 100, 125)
+    yield from neighbours(60, 125, 125)
+    for _ in range(EDGE_DRAWS):     # whole quotients
+        speed = round_draw(rng, V, 25)
+        importance = round_draw(rng, I, 5)
+        exposure = whole_at(rng, 6 * importance * speed * speed, 390_625, KZ)
+        if exposure is not None:
+            yield from neighbours(exposure, importance, speed)
+    for _ in range(EDGE_DRAWS):     # the speeds on both sides of 1,800
+        exposure, importance = even_draw(rng, KZ), even_draw(rng, I)
+        speed = doc.greatest_root(6 * exposure * importance, 1_800 * 390_625)
+        for near in (*beside(speed), speed + 2):
+            yield exposure, importance, near
+
+
+def wind_moment_edges(rng):
+    divisor = 345_600_000_000
+    for _ in range(EDGE_DRAWS):
+        diameter, height = round_draw(rng, D, 1_200), round_draw(rng, HEIGHT, 1_200)
+        pressure = whole_at(rng, diameter * height * height, divisor, P)
+        if pressure is not None:
+            yield from neighbours(pressure, diameter, height)
+    for _ in range(EDGE_DRAWS):
+        pressure, height = round_draw(rng, P, 10), round_draw(rng, HEIGHT, 1_200)
+        diameter = whole_at(rng, pressure * height * height, divisor, D)
+        if diameter is not None:
+            yield from neighbours(pressure, diameter, height)
+
+
+def standard_site_edges(_rng):
+    for speed in range(0, 201):
+        yield (speed,)
+
+
+# --- Edges of the self-anchored leaves ----------------------------------------
+
+
+def shell_weight_edges(rng):
+    for _ in range(2 * EDGE_DRAWS):
+        acceleration, diameter = even_draw(rng, AV), round_draw(rng, D, 1_200)
+        factor = 2_712_000 * (10_000 - 4 * acceleration)
+        weight = whole_at(rng, factor, 710_000 * diameter, W)
+        if weight is not None:
+            yield from neighbours(weight, acceleration, diameter)
+
+
+def exact_root_points(rng):
+    """tb, Fy and H with 6,241 tb tb Fy H = 12,000,000 n n: 6,241 is 79 times 79, and
+    Fy H is taken as 12,000,000 j j."""
+    for _ in range(EDGE_DRAWS):
+        yield_stress = rng.choice((30_000, 37_500, 40_000, 48_000, 50_000))
+        square = 12_000_000 // yield_stress
+        j = even_draw(rng, (3, doc.greatest_root(square, H[1])))
+        level = square * j * j
+        tb = even_draw(rng, from_one(TB))
+        assert doc.water_on_rim_root(tb, yield_stress, level) == 79 * tb * j
+        yield tb, yield_stress, level
+
+
+def water_root_edges(rng):
+    for point in exact_root_points(rng):
+        yield from neighbours(*point)
+
+
+def water_cap_edges(rng):
+    for _ in range(2 * EDGE_DRAWS):
+        diameter = round_draw(rng, D, 50)
+        level = whole_at(rng, diameter, 11_250, H)
+        if level is not None:
+            yield from neighbours(level, diameter)
+
+
+def water_edges(rng):
+    for point in exact_root_points(rng):
+        yield *point, even_draw(rng, D)
+    for _ in range(2 * EDGE_DRAWS):     # the diameters where root and cap are the same
+        level = even_draw(rng, (H[0], 11_249))
+        tb, yield_stress = even_draw(rng, TB), even_draw(rng, FY)
+        root = doc.water_on_rim_root(tb, yield_stress, level)
+        diameter = ceil(Fraction(root * 11_250, level))
+        assert doc.water_on_rim_cap(level, diameter) == root
+        for near in (diameter - 5, *beside(diameter), diameter + 5, diameter + 10):
+            yield tb, yield_stress, level, near
+
+
+def resistance_edges(rng):
+    for unit in (12_000, 1_200, 100):
+        for _ in range(EDGE_DRAWS):
+            diameter, water = round_draw(rng, D, unit), even_draw(rng, WL)
+            both = whole_at(rng, diameter * diameter, 144_000_000, (water, water + WT[1]))
+            if both is not None:
+                yield from neighbours(diameter, both - water, water)
+
+
+LIFT_BOUNDARIES = (785, 1_540)  # of 1,000 Ms over T
+
+
+def lift_edges(rng):
+    for boundary in LIFT_BOUNDARIES:
+        equal = Fraction(boundary, 1_000)       # Ms over T at equality
+        most = min(MS[1] // equal.numerator, T[1] // equal.denominator)
+        for draw in (even_draw, small_draw):
+            for _ in range(EDGE_DRAWS // 2):
+                j = draw(rng, (1, most))
+                yield from neighbours(equal.numerator * j, equal.denominator * j)
+        for _ in range(EDGE_DRAWS):             # between two whole moments
+            resisting = small_draw(rng, (1, T[1] // 100))
+            moment = floor(equal * resisting)
+            yield moment, resisting
+            yield moment + 1, resisting
+
+
+def self_wind_edges(rng):
+    for _ in range(EDGE_DRAWS):
+        diameter = round_draw(rng, D, 100)
+        weight = whole_at(rng, diameter, 3_600, W)
+        if weight is not None:
+            yield from neighbours(weight * diameter // 3_600, weight, diameter)
+    for _ in range(EDGE_DRAWS):
+        diameter, weight = even_draw(rng, D), small_draw(rng, W)
+        for moment in beside(floor(Fraction(weight * diameter, 3_600))):
+            yield moment, weight, diameter
+
+
+# --- Edges of the anchored leaves ---------------------------------------------
+
+
+def net_pull_edges(rng):
+    """Where 4,800 moment / B is whole, W = that less N q makes the exact pull the whole q."""
+    for _ in range(EDGE_DRAWS):
+        circle, anchors = small_draw(rng, B), even_draw(rng, N)
+        balanced = min(MOMENT[1], W[1] * circle // 4_800)   # W can hold this moment down
+        for most in (MOMENT[1], balanced):
+            moment = whole_at(rng, 4_800, circle, (0, most))
+            if moment is None:
+                continue
+            up = 4_800 * moment // circle
+            least, greatest = -((W[1] - up) // anchors), (up - W[0]) // anchors
+            nearest_nought = max(least, min(0, greatest))
+            for pull in (nearest_nought, even_draw(rng, (least, greatest))):
+                point = (moment, up - anchors * pull, circle, anchors)
+                assert doc.net_pull(*point) == pull
+                yield from neighbours(*point)
+
+
+def larger_pull_edges(rng):
+    few = (LEAST_PULL, LEAST_PULL + 1, -211, -1, 0, 1, 2_133, PULL[1] - 1, PULL[1])
+    for one, other in product(few, few):
+        yield *sign_and_size(one), *sign_and_size(other)
+    for minus_nought in ((1, 0, 1, 0), (1, 0, 0, 0), (0, 0, 1, 0), (1, 0, 1, 1), (1, 1, 1, 0)):
+        yield minus_nought
+    for limits in ((LEAST_PULL, -1), (LEAST_PULL, 1_666_666), (0, PULL[1])):
+        for _ in range(EDGE_DRAWS):
+            pull = even_draw(rng, limits)
+            for near in beside(pull):
+                yield *sign_and_size(pull), *sign_and_size(near)
+            other = even_draw(rng, limits)
+            yield *sign_and_size(pull), *sign_and_size(other)
+            yield *sign_and_size(other), *sign_and_size(pull)
+
+
+def pulls_allowed(point):
+    """A pull below 0 is never below the least."""
+    return min(signed(*point[:2]), signed(*point[2:])) >= LEAST_PULL
+
+
+def spacing_edges(_rng):
+    # 355 B = 1,356,000 N has one point in the ranges
+    yield from neighbours(271_200, 71)
+    for anchors in range(N[0], N[1] + 1):
+        circle = floor(Fraction(1_356_000 * anchors, 355))
+        if circle < B[1]:
+            yield circle, anchors
+            yield circle + 1, anchors
+
+
+def strength_edges(rng):
+    for _ in range(EDGE_DRAWS):     # 1,000 pull = 19,950 A, so pull = 399 j and A = 20 j
+        j = even_draw(rng, (1, A[1] // 20))
+        yield from neighbours(399 * j, 20 * j)
+    areas = [*doc.BOLT_CHART.values(), *(even_draw(rng, A) for _ in range(EDGE_DRAWS))]
+    for area in areas:
+        pull = floor(Fraction(19_950 * area, 1_000))
+        yield from ((near, area) for near in beside(pull))
+
+
+# --- The leaves ---------------------------------------------------------------
+
+
+class Leaf(NamedTuple):
+    domain: tuple                               # the range of each argument
+    answer: Callable                            # of the arguments: the line to be written
+    figures: tuple                              # document 01's own
+    edges: Callable                             # of the random numbers: points
+    usual: tuple = ()                           # a part of the domain, for more random points
+    allowed: Callable = lambda point: True      # where the ranges alone do not say it
+
+
+LEAVES = {
+    1: Leaf(
+        (WORD, from_one(WORD)),
+        lambda num, den: decimal(doc.rounded_down(num, den)),
+        ((2_712_000 * 11_000 * 9_892, 710_000 * 14_400), (28_800 * 14_400, 11_250)),
+        division_edges,
+    ),
+    2: Leaf(
+        (WORD, from_one(WORD)),
+        lambda num, den: decimal(doc.rounded_up(num, den)),
+        ((13 * 28_800 * 14_400, 72 * 15_000 * 85),
+         (13 * 19_200 * 14_400, 72 * 15_000 * 85),
+         (13 * 9_600 * 14_400, 72 * 15_000 * 85),
+         (6 * 109 * 115 * 105 * 105, 390_625),
+         (2_123 * 14_400 * 28_800 * 28_800, 345_600_000_000)),
+        division_edges,
+    ),
+    3: Leaf(
+        (SIGN, SIZE, from_one(SIZE)),
+        lambda neg, size, den: decimal(doc.rounded_up(signed(neg, size), den)),
+        ((0, 4_800 * 73_371 - 11_000 * 14_800, 6 * 14_800),
+         (1, 11_000 * 14_800 - 4_800 * 30_000, 6 * 14_800)),
+        signed_division_edges,
+    ),
+    4: Leaf(
+        (from_one(WORD), WORD),
+        lambda factor, most: decimal(doc.greatest_root(factor, most)),
+        ((12_000_000, 6_241 * 250 * 250 * 36_000 * 28_800),),
+        root_edges,
+    ),
+    5: Leaf(
+        (SIDE, from_one(SIDE)),
+        lambda need, capacity: hexadecimal(doc.use_bits(need, capacity)),
+        ((188, 250), (355 * 14_800, 1_356_000 * 6), (1_000 * 2_133, 19_950 * 606),
+         (3_600 * 73_371, 11_000 * 14_400), (1_000 * 30_000, 1_540 * 94_646)),
+        quotient_edges,
+    ),
+    6: Leaf(
+        (SIGN, SIZE),
+        lambda neg, size: decimal(signed(neg, size)),
+        ((0, 2_133), (1, 211)),
+        signed_edges,
+    ),
+    10: Leaf(
+        (U32, U32),
+        lambda field, figure: yes_or_no(doc.field_in_range(field, figure)),
+        ((1, 14_400), (2, 28_800), (3, 11_000), (4, 250), (5, 0), (6, 36_000), (7, 105),
+         (8, 109), (9, 115), (10, 27), (11, 30_000), (12, 6), (13, 14_800), (14, 8),
+         (15, 9_600), (16, 250), (17, 0), (18, 15_000), (19, 85)),
+        field_edges,
+        usual=((0, 20), (0, 400_000)),
+    ),
+    11: Leaf(
+        (U32,),
+        lambda d: decimal(doc.bolt_area(d)),
+        ((8,),),
+        bolt_edges,
+    ),
+    12: Leaf(
+        ((0, 16), (0, 19)),
+        lambda place, field: refusal_text(*doc.refusal_at(place, field)),
+        (),
+        refusal_edges,
+    ),
+    20: Leaf(
+        (U32, U32),
+        lambda level, bottom_edge: decimal(doc.course_head(level, bottom_edge)),
+        ((28_800, 0), (28_800, 9_600), (28_800, 19_200), (28_800, 28_800), (28_801, 28_800)),
+        head_edges,
+        usual=(H, HEIGHT),
+    ),
+    21: Leaf(
+        (HEIGHT, D, S, E),
+        lambda h, diameter, s, efficiency: decimal(doc.hoop_need(h, diameter, s, efficiency)),
+        ((28_800, 14_400, 15_000, 85), (19_200, 14_400, 15_000, 85), (9_600, 14_400, 15_000, 85)),
+        hoop_need_edges,
+    ),
+    22: Leaf(
+        (U32,),
+        lambda diameter: decimal(doc.house_floor(diameter)),
+        ((14_400,), (60_000,), (60_001,), (144_000,), (144_001,)),
+        floor_edges,
+        usual=(D,),
+    ),
+    23: Leaf(
+        (NEED, C, U32),
+        lambda need, c, diameter: decimal(doc.required_plate(need, c, diameter)),
+        ((59, 0, 14_400), (40, 0, 14_400), (20, 0, 14_400), (59, 0, 60_000), (59, 0, 60_001),
+         (59, 0, 144_000), (59, 0, 144_001)),
+        required_edges,
+        usual=((0, 400), C, D),
+    ),
+    24: Leaf(
+        (REQUIRED, PLATE),
+        lambda required, t: verdict_text(doc.course_verdict(required, t)),
+        ((188, 250),),
+        course_verdict_edges,
+        usual=((0, 2_000), PLATE),
+    ),
+    25: Leaf(
+        (KZ, I, V),
+        lambda exposure, importance, speed: decimal(
+            doc.wind_pressure(exposure, importance, speed)),
+        ((109, 115, 105), (109, 115, 96), (109, 115, 97)),
+        pressure_edges,
+    ),
+    26: Leaf(
+        (P, D, HEIGHT),
+        lambda pressure, diameter, height: decimal(doc.wind_moment(pressure, diameter, height)),
+        ((2_123, 14_400, 28_800), (1_800, 14_400, 28_800), (1_812, 14_400, 28_800)),
+        wind_moment_edges,
+    ),
+    27: Leaf(
+        (U32,),
+        standard_site_text,
+        ((105,), (96,), (97,)),
+        standard_site_edges,
+    ),
+    28: Leaf(
+        (W, AV, D),
+        lambda weight, acceleration, diameter: decimal(
+            doc.shell_weight_on_rim(weight, acceleration, diameter)),
+        ((11_000, 27, 14_400), (18_342, 27, 14_400), (18_343, 27, 14_400)),
+        shell_weight_edges,
+    ),
+    29: Leaf(
+        (TB, FY, H),
+        lambda tb, yield_stress, level: decimal(doc.water_on_rim_root(tb, yield_stress, level)),
+        ((250, 36_000, 28_800),),
+        water_root_edges,
+    ),
+    30: Leaf(
+        (H, D),
+        lambda level, diameter: decimal(doc.water_on_rim_cap(level, diameter)),
+        ((28_800, 14_400), (28_800, 60_000), (28_800, 60_001)),
+        water_cap_edges,
+    ),
+    31: Leaf(
+        (TB, FY, H, D),
+        lambda tb, yield_stress, level, diameter: decimal(
+            doc.water_on_rim(tb, yield_stress, level, diameter)),
+        ((250, 36_000, 28_800, 14_400),),
+        water_edges,
+    ),
+    32: Leaf(
+        (D, WT, WL),
+        lambda diameter, wt, wL: decimal(doc.resistance(diameter, wt, wL)),
+        ((14_400, doc.shell_weight_on_rim(11_000, 27, 14_400), 36_864),
+         (14_400, doc.shell_weight_on_rim(11_000, 27, 14_400), 183_579)),
+        resistance_edges,
+    ),
+    33: Leaf(
+        (MS, T),
+        doc.uplift,
+        ((30_000, 94_646), (74_297, 94_646), (74_298, 94_646), (145_754, 94_646),
+         (145_755, 94_646)),
+        lift_edges,
+        usual=((0, 300_000), (0, 300_000)),
+    ),
+    34: Leaf(
+        (MS, from_one(T)),
+        lambda moment, resisting: verdict_text(doc.self_earthquake_verdict(moment, resisting)),
+        ((30_000, 94_646), (74_297, 94_646), (74_298, 94_646), (145_754, 94_646),
+         (145_755, 94_646)),
+        lift_edges,
+        usual=((0, 300_000), (1, 300_000)),
+    ),
+    35: Leaf(
+        (MOMENT, W, B, N),
+        lambda moment, weight, circle, anchors: decimal(
+            doc.net_pull(moment, weight, circle, anchors)),
+        ((73_371, 11_000, 14_800, 6), (30_000, 11_000, 14_800, 6)),
+        net_pull_edges,
+    ),
+    36: Leaf(
+        (SIGN, PULL, SIGN, PULL),
+        lambda neg_one, one, neg_other, other: decimal(
+            doc.larger_pull(signed(neg_one, one), signed(neg_other, other))),
+        ((0, 2_133, 1, 211), (1, 211, 0, 2_133), (1, 211, 1, 211)),
+        larger_pull_edges,
+        usual=(SIGN, (0, -LEAST_PULL), SIGN, (0, -LEAST_PULL)),
+        allowed=pulls_allowed,
+    ),
+    37: Leaf(
+        (B_FIELD, N),
+        lambda circle, anchors: verdict_text(doc.spacing_verdict(circle, anchors)),
+        ((14_800, 6), (22_918, 6), (22_919, 6)),
+        spacing_edges,
+    ),
+    38: Leaf(
+        (PULL, A),
+        lambda pull, area: verdict_text(doc.strength_verdict(pull, area)),
+        ((2_133, 606), (0, 606)),
+        strength_edges,
+        usual=((0, 60_000), A),
+    ),
+    39: Leaf(
+        (MOMENT, W, D),
+        lambda moment, weight, diameter: verdict_text(
+            doc.self_wind_verdict(moment, weight, diameter)),
+        ((73_371, 11_000, 14_400), (73_371, 18_342, 14_400), (73_371, 18_343, 14_400)),
+        self_wind_edges,
+    ),
+}
+
+# --- Points and lines ---------------------------------------------------------
+
+
+def inside(leaf, point):
+    ranges = zip(point, leaf.domain, strict=True)
+    return all(least <= figure <= greatest for figure, (least, greatest) in ranges) \
+        and leaf.allowed(point)
+
+
+def add_random_points(points, leaf, rng, domain, count):
+    """As many new points, drawn evenly and near the least in turn."""
+    goal = len(points) + count
+    draws = (even_draw, small_draw)
+    while len(points) < goal:
+        draw = draws[len(points) % 2]
+        point = tuple(draw(rng, limits) for limits in domain)
+        if leaf.allowed(point):
+            points.setdefault(point)
+
+
+def leaf_points(number):
+    """The leaf's points without repeats, in a fixed order."""
+    leaf = LEAVES[number]
+    rng = Random(number)
+    points = dict.fromkeys(leaf.figures)    # a dict keeps its order
+    assert all(inside(leaf, point) for point in points)
+    points.update(dict.fromkeys(filter(leaf.allowed, product(*map(ends, leaf.domain)))))
+    points.update(dict.fromkeys(point for point in leaf.edges(rng) if inside(leaf, point)))
+    if prod(greatest - least + 1 for least, greatest in leaf.domain) <= WHOLE_DOMAIN:
+        whole = product(*(range(least, greatest + 1) for least, greatest in leaf.domain))
+        points.update(dict.fromkeys(whole))
+    else:
+        add_random_points(points, leaf, rng, leaf.domain, RANDOM_POINTS)
+        if leaf.usual:
+            add_random_points(points, leaf, rng, leaf.usual, USUAL_POINTS)
+    assert all(inside(leaf, point) for point in points)
+    return list(points)
+
+
+def leaf_line(number, point):
+    unused = (0,) * (ARGUMENTS - len(point))
+    return " ".join(map(str, (number, *point, *unused)))
+
+
+def all_lines():
+    return [leaf_line(number, point) for number in LEAVES for point in leaf_points(number)]
+
+
+def answer(line):
+    number, *arguments = map(int, line.split(" "))
+    leaf = LEAVES[number]
+    return leaf.answer(*arguments[:len(leaf.domain)])
+
+
+def as_bytes(lines):
+    return "".join(line + "\n" for line in lines).encode("ascii")
