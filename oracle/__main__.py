@@ -1,7 +1,7 @@
 """The oracle's command line.
 
-python3 oracle make    writes crates/leaves/stdin and crates/leaves/stdout
-python3 oracle check   makes both again and compares them with what is stored
+python3 oracle make    writes what the programs read and are to write, beside each
+python3 oracle check   makes the same again and compares it with what is stored
 """
 
 import sys
@@ -11,11 +11,13 @@ sys.dont_write_bytecode = True
 from pathlib import Path
 
 import document
+import example
 import leaves
 
 ROOT = Path(__file__).resolve().parent.parent
 STDIN = "crates/leaves/stdin"
 STDOUT = "crates/leaves/stdout"
+EXAMPLE = "crates/example/stdout"
 
 
 def made_files():
@@ -24,7 +26,7 @@ def made_files():
     stdin = leaves.as_bytes(lines)
     stdout = leaves.as_bytes([leaves.answer(line) for line in lines])
     assert len(stdin) < leaves.MOST_STDIN_BYTES
-    return {STDIN: stdin, STDOUT: stdout}
+    return {STDIN: stdin, STDOUT: stdout, EXAMPLE: leaves.as_bytes(example.lines())}
 
 
 def make():

@@ -1,6 +1,6 @@
 -- The root found bit by bit is the greatest: its square is at most the number, and the next one's is above it.
 -- Assumes nothing.
-use mathlib.Core.Path.{_≡_, sym, subst}
+use mathlib.Core.Path.{_≡_, refl, sym, subst}
 use mathlib.Core.Bool.{Bool, true, false, not, cond}
 use Prim.Native.Nat.{ℕ, zero, suc, _+_, _*_, _/_, _^_, _≤_, _<_}
 use native.Mathlib.Nat.{add-assoc, div-le-self, div-lt-iff-lt-mul, le-div-iff-mul-le, le-trans, lt-of-le-of-lt, lt-of-not-le, mul-le-mul, mul-le-mul-left, not-le-of-lt, two-pow-succ}
@@ -49,3 +49,8 @@ module _ (factor most : ℕ) (h : 0 < factor) (fits : most < 2 ^ 64) where
       below (no f) =
           let above : r + 1 ≤ n = omega (arith, lt-of-not-le f) in
           absurd (not-le-of-lt root-near (le-trans (omega (arith, mul-le-mul-left factor (mul-le-mul above above))) l))
+
+-- the definition computes by bits, at the size that document 01 has
+computes : rootOf 12000000 404416800000000000 ≡ 183579
+unfolding rootOf
+computes = refl

@@ -80,7 +80,7 @@ larger-most a b h k = rw larger-is (max-le h k)
 
 -- ---- T is above 0 for every sheet: wL alone is above 0, and D × D is at least 144,000,000
 
-pub bottom-above : (tb Fy H D : ℕ) → 0 < tb → tb ≤ mostPlate → leastYield ≤ Fy → Fy ≤ mostYield → In 2 H → In 1 D → 0 < bottomWeight tb Fy H D
+bottom-above : (tb Fy H D : ℕ) → 0 < tb → tb ≤ mostPlate → leastYield ≤ Fy → Fy ≤ mostYield → In 2 H → In 1 D → 0 < bottomWeight tb Fy H D
 unfolding bottomWeight bottomRoot bottomCap capExact rootMost
 bottom-above tb Fy H D p t g f h d =
     le-min
@@ -88,11 +88,13 @@ bottom-above tb Fy H D p t g f h d =
     (omega (arith, mul-le-mul (mul-le-mul p p) (mul-le-mul g (h .0)))))
     (down-greatest (H * D) 11250 (omega arith) 1 (omega (arith, mul-le-mul (h .0) (d .0))))
 
-pub resistance-above : (D wt wL : ℕ) → In 1 D → 0 < wL → 0 < resistanceOf D wt wL
+pub resistance-above : (W Av D H tb Fy : ℕ) → 0 < tb → tb ≤ mostPlate → leastYield ≤ Fy → Fy ≤ mostYield → In 2 H → In 1 D
+    → 0 < resistanceOf D (shellWeight W Av D) (bottomWeight tb Fy H D)
 unfolding resistanceOf
-resistance-above D wt wL d p =
-    let sum : 1 ≤ wt + wL = omega arith in
-    down-greatest (D * D * (wt + wL)) 144000000 (omega arith) 1 (omega (arith, mul-le-mul (mul-le-mul (d .0) (d .0)) sum))
+resistance-above W Av D H tb Fy p t g f h d =
+    let sum = shellWeight W Av D + bottomWeight tb Fy H D in
+    let some : 1 ≤ sum = omega (arith, bottom-above tb Fy H D p t g f h d) in
+    down-greatest (D * D * sum) 144000000 (omega arith) 1 (omega (arith, mul-le-mul (mul-le-mul (d .0) (d .0)) some))
 
 -- ---- the two sides of each comparison
 
