@@ -1,7 +1,7 @@
 -- The laws of the rounded quotients, stated once over the numerator and the divisor.
 -- Assumes nothing.
 use mathlib.Core.Path.{_≡_, sym}
-use Prim.Native.Nat.{ℕ, suc, _+_, _-_, _*_, _/_, _%_, _≤_, _<_}
+use Prim.Native.Nat.{ℕ, _+_, _-_, _*_, _≤_, _<_}
 use native.Mathlib.Nat.{div-mul-le-self, lt-div-mul-add, le-div-iff-mul-le, div-eq-of-lt-le, div-lt-iff-lt-mul, le-of-suc-le-suc, suc-mul}
 use native.Mathlib.Omega.{arith}
 use Rattle.exact.specs.Quotient.{downOf, upOf, Ratio, whole, AtLeast, AtMost}

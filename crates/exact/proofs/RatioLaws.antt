@@ -1,9 +1,9 @@
 -- The one division of two whole floats is the correctly rounded quotient of the whole numbers. The quotient is no NaN.
 -- Assumes nothing.
-use mathlib.Core.Path.{_≡_, refl, sym, ap, _∙_, subst}
+use mathlib.Core.Path.{_≡_, sym, ap, _∙_, subst}
 use mathlib.Core.Bool.{Bool, true, false, not, cond}
 use Prim.Native.Nat.{ℕ, zero, suc, _+_, _*_, _^_, _≤_, _<_}
-use native.Mathlib.Nat.{eq-of-mul-eq-mul-right, lt-irrefl, mul-assoc, mul-comm, mul-left-comm, mul-pos, zero-mul}
+use native.Mathlib.Nat.{lt-irrefl, mul-pos, zero-mul}
 use native.Mathlib.Omega.{arith}
 use lib.Dec.{T, ltb}
 use lib.IntN.{ℤ, pos, negsuc}

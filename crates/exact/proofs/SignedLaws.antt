@@ -5,7 +5,7 @@ use mathlib.Core.Bool.{Bool, true, false, not, cond}
 use Prim.Native.Nat.{ℕ, zero, suc, _+_, _-_, _*_, _/_, _%_, _^_, _≤_, _<_}
 use native.Mathlib.Nat.{div-add-mod', div-le-self, le-mul-of-pos-right, lt-of-le-of-lt, mod-lt, mul-pos, zero-mul, lt-irrefl, lt-of-not-le, not-suc-le-self, not-suc-le-zero, zero-add}
 use native.Mathlib.Omega.{arith}
-use lib.Dec.{T, leb, ltb, leb→le, le→leb, ltb→lt, lt→ltb, nltb→le}
+use lib.Dec.{T, ltb, leb→le, le→leb, ltb→lt, lt→ltb, nltb→le}
 use lib.IntN.{ℤ, pos, negsuc, negℤ, natAbs, subℕ, _+ℤ_, _-ℤ_, _*ℤ_, +ℤ-one}
 use lib.Signed.{mag, nonNeg, leZ, ltZ, quotZ, remZ, _≤ℤ_, _<ℤ_, leZ-yes, ltZ-yes}
 use mir.Syntax.{Width, w64}

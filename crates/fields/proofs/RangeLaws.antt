@@ -2,15 +2,14 @@
 -- Assumes nothing.
 use mathlib.Core.Path.{_≡_, refl, sym, ap, _∙_, subst}
 use mathlib.Core.Bool.{Bool, true, false, not, _&&_, _||_}
-use mathlib.Core.Logic.{_⊎_, inl, inr}
 use Prim.Native.Nat.{ℕ, zero, suc, _≤_, _<_}
 use native.Mathlib.Nat.{lt-of-not-le, le-of-suc-le-suc}
 use native.Mathlib.Decide.{decLe}
 use native.Mathlib.Omega.{arith}
-use lib.Dec.{T, leb, eqb, leb→le, le→leb, eqb→eq}
+use lib.Dec.{T, leb, eqb, leb→le, le→leb}
 use lib.ListN.{List·getD-eq-default}
 use borrow.Author.Tests.{le-leb, lt-leb, ne-eqb}
-use Rattle.exact.proofs.Table.{every, at-each}
+use Rattle.exact.proofs.Table.{at-each}
 use Rattle.fields.specs.Range.{Range, ranges, range, _to_, between, within, In}
 
 pub none-past : (k : ℕ) → 19 < k → range k ≡ (1 to 0)

@@ -1,6 +1,5 @@
 -- What each refusal is on paper: document 01, "Refusals that come from the input" and "from the state". What is promised of a
 -- refusal is promised through `paperOf`.
-use mathlib.Core.List.{List, [], _∷_}
 use Prim.Native.Nat.{ℕ}
 use Rattle.fields.specs.declared.refusal.Paper.{Paper}
 use Rattle.fields.specs.declared.refusal.Refusal.{Refusal}

@@ -5,8 +5,8 @@
 use mathlib.Core.Path.{_≡_, refl}
 use mathlib.Core.Logic.{_⊎_, inl, inr}
 use mathlib.Core.Bool.{Bool, true, false, not, cond}
-use Prim.Native.Nat.{ℕ, zero, suc, _+_, _*_, max, _≤_, _<_}
-use native.Mathlib.Nat.{eq-zero-or-pos, mul-le-mul-left, mul-le-mul-right, mul-pos, lt-of-not-le}
+use Prim.Native.Nat.{ℕ, _+_, _*_, max, _≤_, _<_}
+use native.Mathlib.Nat.{eq-zero-or-pos, mul-le-mul-right, mul-pos, lt-of-not-le}
 use native.Mathlib.Decide.{decLe}
 use native.Mathlib.Omega.{arith}
 use lib.Dec.{T, ltb, ltb→lt, nltb→le}

@@ -1,10 +1,9 @@
 -- The weights and the resistance are on the safe side of their exact values and within their margins. `resistance-safe`: whatever T
 -- bears, the unrounded resistance bears. `resistance-near`: what the unrounded resistance bears with its margin added, T bears.
 -- Assumes nothing.
-use mathlib.Core.Path.{_≡_}
-use mathlib.Core.Logic.{_⊎_, inl, inr, ⊎-elim}
+use mathlib.Core.Logic.{_⊎_, inl, inr}
 use Prim.Native.Nat.{ℕ, _+_, _-_, _*_, _^_, _≤_, _<_}
-use native.Mathlib.Nat.{le-of-lt, le-trans, min-eq-left, min-le-left, lt-of-le-of-lt, lt-of-not-le, not-le-of-lt, mul-le-mul, mul-le-mul-left, mul-le-mul-right, mul-pos}
+use native.Mathlib.Nat.{le-of-lt, le-trans, min-eq-left, min-le-left, lt-of-le-of-lt, lt-of-not-le, not-le-of-lt, mul-le-mul, mul-le-mul-right, mul-pos}
 use native.Mathlib.Decide.{decLe}
 use native.Mathlib.Omega.{arith}
 use lib.Dec.{lit<}

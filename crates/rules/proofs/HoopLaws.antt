@@ -1,7 +1,7 @@
 -- The hoop need is on the safe side of its exact fraction and within its margin; a plate is at least the required one exactly when it
 -- is at least the need with the allowance and at least the floor.
 -- Assumes nothing.
-use Prim.Native.Nat.{ℕ, _+_, _*_, _≤_, _<_}
+use Prim.Native.Nat.{ℕ, _+_, _≤_, _<_}
 use native.Mathlib.Nat.{mul-pos}
 use native.Mathlib.Omega.{arith}
 use Rattle.exact.specs.Quotient.{AtLeast}

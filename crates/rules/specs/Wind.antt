@@ -2,7 +2,6 @@
 -- shape). Pressure in hundredths of a psf, moment in foot-pounds. v stands for V, which is a word of the language.
 use mathlib.Core.Bool.{cond}
 use Prim.Native.Nat.{ℕ, _+_, _*_, max}
-use lib.Dec.{leb}
 use Rattle.exact.specs.Quotient.{Ratio, upOf}
 use Rattle.fields.specs.Range.{range, within}
 use Rattle.fields.specs.Refusal.{paperOf}

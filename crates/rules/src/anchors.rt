@@ -1,8 +1,6 @@
 // Anchors, and wind on a tank that has none.
 ghost use mathlib.Core.Path.{_≡_};
 ghost use Prim.Native.Nat.{_≤_, _<_};
-ghost use lib.IntN.{pos};
-ghost use lib.Signed.{_≤ℤ_};
 ghost use Rattle.fields.specs.Range.{In};
 ghost use Rattle.rules.specs.Bounds.{mostArea, mostMoment, mostPull};
 ghost use Rattle.rules.specs.Anchors.{pullOf, largerPull, spacingVerdict, strengthVerdict, windVerdict};

@@ -1,6 +1,5 @@
 -- `leaves::run` is safe and ends: every line goes on by at least a byte. Assumes nothing.
 use Prim.Native.Nat.{_-_, _≤_}
-use native.Mathlib.Omega.{arith}
 use lib.ListN.{length}
 use borrow.Author.Needs.{needs}
 use Rattle.leaves.proofs.run.Statement.{statement}

@@ -1,6 +1,6 @@
 -- `exact::quotient::up_signed` meets its contract. Assumes nothing.
 use mathlib.Core.Path.{_≡_, refl}
-use mathlib.Core.Bool.{Bool, true, false}
+use mathlib.Core.Bool.{true, false}
 use Prim.Native.Nat.{ℕ, _<_}
 use lib.Dec.{ltb→lt}
 use lib.IntN.{ℤ, pos, negsuc, natAbs, _+ℤ_}

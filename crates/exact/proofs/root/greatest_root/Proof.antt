@@ -2,7 +2,7 @@
 -- still grow by less than 2 ^ k, so it stays below 2 ^ 32 and its square fits. The measure is k.
 -- Assumes nothing.
 use mathlib.Core.Path.{_≡_, refl, sym, ap, _∙_, subst}
-use Prim.Native.Nat.{ℕ, zero, suc, _+_, _-_, _*_, _/_, _%_, _^_, _≤_, _<_}
+use Prim.Native.Nat.{ℕ, suc, _+_, _-_, _*_, _%_, _^_, _≤_, _<_}
 use native.Mathlib.Nat.{le-pred-of-lt, lt-of-le-of-lt, mod-eq-of-lt, mul-le-mul, one-mul, two-pow-succ}
 use native.Mathlib.Omega.{arith}
 use mathlib.Core.Bool.{cond}

@@ -2,11 +2,9 @@
 use Prim.Native.Nat.{_*_}
 use native.Mathlib.Nat.{mul-le-mul, mul-pos}
 use lib.Dec.{lt→ltb}
-use lib.IntN.{pos}
 use lib.Signed.{ltZ-yes}
 use native.Mathlib.Omega.{arith}
 use mir.Syntax.{w64}
-use mir.Val.{SFits, toZ}
 use mir.Facts.{toZ-ofZ}
 use borrow.Author.Needs.{needs}
 use Rattle.exact.proofs.Products.{mul-fits, mul-sfits}
