@@ -1,28 +1,17 @@
--- The one division of two whole floats is the correctly rounded quotient of the whole numbers. The quotient is no NaN.
+-- The one division of two whole floats is the correctly rounded quotient of the whole numbers.
 -- Assumes nothing.
-use mathlib.Core.Path.{_≡_, sym, ap, _∙_, subst}
-use mathlib.Core.Bool.{Bool, true, false, not, cond}
-use Prim.Native.Nat.{ℕ, zero, suc, _+_, _*_, _^_, _≤_, _<_}
+use mathlib.Core.Path.{_≡_, ap, _∙_, subst}
+use mathlib.Core.Bool.{false}
+use Prim.Native.Nat.{ℕ, _*_, _^_, _≤_, _<_}
 use native.Mathlib.Nat.{lt-irrefl, mul-pos, zero-mul}
 use native.Mathlib.Omega.{arith}
-use lib.Dec.{T, ltb}
-use lib.IntN.{ℤ, pos, negsuc}
-use lib.Pow.{pow-pos}
-use lib.Ieee.{Float, nan, inf, fin, Format, prec, emax, low, up, down, round, units, div, ofInt, isNan, odd}
+use lib.IntN.{pos}
+use lib.Ieee.{Float, nan, inf, fin, Format, prec, up, down, round, div, ofInt}
 use lib.Ieee.Back.{round-whole}
 use lib.Ieee.Exact.{HasValue}
-use lib.Ieee.Fits.{round-is}
-use lib.Ieee.Order.{kept, drop}
+use lib.Ieee.Fits.{down-pos}
 use lib.Ieee.Scale.{round-same}
 use borrow.Author.Tests.{ne-eqb}
-
-down-pos : (e : ℤ) → 0 < down e
-down-pos (pos k) = omega arith
-down-pos (negsuc k) = pow-pos (suc k)
-
-up-pos : (e : ℤ) → 0 < up e
-up-pos (pos k) = pow-pos k
-up-pos (negsuc k) = omega arith
 
 -- with X / p for a and Y / q for b
 cross : (X Y a b p q : ℕ) → X * 1 ≡ a * p → Y * 1 ≡ b * q → X * q * b ≡ a * (Y * p)
@@ -50,17 +39,3 @@ pub whole-quotient : (f : Format) (a b : ℕ) → 0 < b → a ≤ 2 ^ prec f →
     → div f (ofInt f (pos a)) (ofInt f (pos b)) ≡ round f false a b
 unfolding ofInt
 whole-quotient f a b p h k = quotient f (round f false a 1) (round f false b 1) a b p (round-whole f false a h) (round-whole f false b k)
-
-units-number : (f : Format) (s : Bool) (q k : ℕ) → T (not (isNan (units f s q k)))
-unfolding units odd isNan
-units-number f s q k = go (ltb (q * 2 ^ k) (2 ^ (low f + suc (emax f)))) q
-  where
-    go : (b : Bool) (q : ℕ) → T (not (isNan (cond b (odd (suc (prec f)) s q k (low f)) (inf s))))
-    go true zero = tt
-    go true (suc q) = tt
-    go false q = tt
-
-pub round-number : (f : Format) (s : Bool) (num den : ℕ) → T (not (isNan (round f s num den)))
-round-number f s num den =
-    subst (λ (x : Float). T (not (isNan x))) (sym (round-is f s num den))
-    (units-number f s (kept (prec f) (num * 2 ^ low f) den) (drop (prec f) (num * 2 ^ low f) den))

@@ -1,6 +1,6 @@
 -- The laws of the signed quotient that is rounded toward the greater number, and what the machine's division and remainder say of it.
 -- Assumes nothing.
-use mathlib.Core.Path.{_≡_, refl, sym, ap, _∙_, subst}
+use mathlib.Core.Path.{_≡_, refl, sym, ap, subst}
 use mathlib.Core.Bool.{Bool, true, false, not, cond}
 use Prim.Native.Nat.{ℕ, zero, suc, _+_, _-_, _*_, _/_, _%_, _^_, _≤_, _<_}
 use native.Mathlib.Nat.{div-add-mod', div-le-self, le-mul-of-pos-right, lt-of-le-of-lt, mod-lt, mul-pos, zero-mul, lt-irrefl, lt-of-not-le, not-suc-le-self, not-suc-le-zero, zero-add}
@@ -100,9 +100,9 @@ pub quot-fits : {w : Width} (z : ℤ) (d : ℕ) → SFits w z → SFits w (quotZ
 quot-fits (pos a) d f = sfits-le (div-le-self a d) f
 quot-fits (negsuc a) d f = sfits-le (neg-size (suc a / d) a (div-le-self (suc a) d)) f
 
-neg-not-above : (r : ℕ) → ltZ (pos 0) (negℤ (pos r)) ≡ false
-neg-not-above zero = refl
-neg-not-above (suc r) = refl
+neg-not-above : (r : ℕ) → ltZ (pos 0) (negℤ (pos r)) ≡ true → ⊥
+neg-not-above zero t = subst T (sym t) tt
+neg-not-above (suc r) t = subst T (sym t) tt
 
 module _ (d : ℕ) (p : 0 < d) where
   -- a remainder above 0: the quotient was cut, and one more fits
@@ -110,11 +110,11 @@ module _ (d : ℕ) (p : 0 < d) where
   unfolding upℤ
   cut-up (pos a) t =
       ap pos (up-unique a d p (a / d + 1) (omega (arith, div-add-mod' a d, mod-lt a p)) (omega (arith, div-add-mod' a d, ltb-true 0 (a % d) t)))
-  cut-up (negsuc a) t = let z : _≡_ {A = Bool} true false = sym t ∙ neg-not-above (suc a % d) in absurd (subst T z tt)
+  cut-up (negsuc a) t = absurd (neg-not-above (suc a % d) t)
 
   pub cut-fits : {w : Width} (z : ℤ) → ltZ (pos 0) (remZ z (pos d)) ≡ true → SFits w z → SFits w (quotZ z (pos d) +ℤ pos 1)
   cut-fits (pos a) t f = sfits-le (omega (arith, div-add-mod' a d, ltb-true 0 (a % d) t, le-mul-of-pos-right (a / d) p)) f
-  cut-fits (negsuc a) t f = let z : _≡_ {A = Bool} true false = sym t ∙ neg-not-above (suc a % d) in absurd (subst T z tt)
+  cut-fits (negsuc a) t f = absurd (neg-not-above (suc a % d) t)
 
   -- none above 0: the quotient was whole, or cut toward the greater number
   pub uncut-up : (z : ℤ) → ltZ (pos 0) (remZ z (pos d)) ≡ false → quotZ z (pos d) ≡ upℤ z d

@@ -5,7 +5,7 @@ use mathlib.Core.List.{List, [], _∷_}
 use Prim.Native.Nat.{ℕ, _≤_, _<_}
 use native.Mathlib.Omega.{arith}
 use lib.Dec.{T, leb, ltb, eqb, leb→le, ltb→lt}
-use Rattle.exact.proofs.Table.{first, second}
+use mir.Facts.{and-yes}
 use Rattle.fields.specs.Bolt.{Bolt, chart, areaIn, sizeIn, inChart, stressArea}
 
 -- the test of one bolt, an area from 1 to 2,500, and of all
@@ -18,18 +18,18 @@ all-fair (b ∷ bs) = fair b && all-fair bs
 
 above : (bs : List Bolt) (d : ℕ) → T (all-fair bs) → T (sizeIn bs d) → 0 < areaIn bs d
 above [] d s t = absurd t
-above (b ∷ bs) d s t = go (eqb d (b .size)) t (above bs d (second (fair b) (all-fair bs) s))
+above (b ∷ bs) d s t = go (eqb d (b .size)) t (above bs d (and-yes (fair b) (all-fair bs) s .1))
   where
     go : (e : Bool) → T (e || sizeIn bs d) → (T (sizeIn bs d) → 0 < areaIn bs d) → 0 < cond e (b .area) (areaIn bs d)
-    go true t r = ltb→lt 0 (b .area) (first (ltb 0 (b .area)) (leb (b .area) 2500) (first (fair b) (all-fair bs) s))
+    go true t r = ltb→lt 0 (b .area) (and-yes (ltb 0 (b .area)) (leb (b .area) 2500) (and-yes (fair b) (all-fair bs) s .0) .0)
     go false t r = r t
 
 most : (bs : List Bolt) (d : ℕ) → T (all-fair bs) → areaIn bs d ≤ 2500
 most [] d s = omega arith
-most (b ∷ bs) d s = go (eqb d (b .size)) (most bs d (second (fair b) (all-fair bs) s))
+most (b ∷ bs) d s = go (eqb d (b .size)) (most bs d (and-yes (fair b) (all-fair bs) s .1))
   where
     go : (e : Bool) → areaIn bs d ≤ 2500 → cond e (b .area) (areaIn bs d) ≤ 2500
-    go true r = leb→le (b .area) 2500 (second (ltb 0 (b .area)) (leb (b .area) 2500) (first (fair b) (all-fair bs) s))
+    go true r = leb→le (b .area) 2500 (and-yes (ltb 0 (b .area)) (leb (b .area) 2500) (and-yes (fair b) (all-fair bs) s .0) .1)
     go false r = r
 
 pub stress-area-above : (d : ℕ) → T (inChart d) → 0 < stressArea d

@@ -6,8 +6,9 @@ use Prim.Native.Nat.{ℕ, zero, suc, _≤_, _<_}
 use native.Mathlib.Nat.{lt-of-not-le, le-of-suc-le-suc}
 use native.Mathlib.Decide.{decLe}
 use native.Mathlib.Omega.{arith}
-use lib.Dec.{T, leb, eqb, leb→le, le→leb}
+use lib.Dec.{T, leb, eqb, leb→le}
 use lib.ListN.{List·getD-eq-default}
+use mir.Facts.{and-yes}
 use borrow.Author.Tests.{le-leb, lt-leb, ne-eqb}
 use Rattle.exact.proofs.Table.{at-each}
 use Rattle.fields.specs.Range.{Range, ranges, range, _to_, between, within, In}
@@ -32,22 +33,12 @@ no-zero k h = go (decLe k 19)
     go (yes l) = pick (eqb k 12) (range k .orZero) (ne-eqb k 12 h) (at-each only-N 20 tt k (omega arith))
     go (no f) = ap (λ (r : Range). r .orZero) (none-past k (lt-of-not-le f))
 
--- a figure that passed the test is in the range, and back
+-- a figure that passed the test is between the ends
 pub in-of-between : (k x : ℕ) → T (between (range k) x) → In k x
 unfolding between
-in-of-between k x = go (leb (range k .least) x) (leb→le (range k .least) x) (leb→le x (range k .greatest))
-  where
-    go : (a : Bool) → (T a → range k .least ≤ x) → (T (leb x (range k .greatest)) → x ≤ range k .greatest) → T (a && leb x (range k .greatest)) → In k x
-    go true y z t = (y tt, z t)
-    go false y z t = absurd t
-
-pub between-of-in : (k x : ℕ) → In k x → T (between (range k) x)
-unfolding between
-between-of-in k x h = go (leb (range k .least) x) (le→leb (range k .least) x (h .0))
-  where
-    go : (a : Bool) → T a → T (a && leb x (range k .greatest))
-    go true y = le→leb x (range k .greatest) (h .1)
-    go false y = y
+in-of-between k x t =
+    let both = and-yes (leb (range k .least) x) (leb x (range k .greatest)) t in
+    (leb→le (range k .least) x (both .0), leb→le x (range k .greatest) (both .1))
 
 -- where a figure lies decides the test
 pub below : (r : Range) (x : ℕ) → x < r .least → false ≡ between r x

@@ -33,6 +33,10 @@ module _ (moment W B N : ℕ) (p : 0 < N) (q : 0 < B) where
   unfolding pullOf pullExact
   pull-near = part-near (4800 * moment) (W * B) (N * B) (mul-pos p q)
 
+pub pull-margin-den : 0 < pullMargin .den
+unfolding pullMargin
+pull-margin-den = omega arith
+
 -- over plain numbers: r is the pull, b is W × B, d is N × B, and n / e a moment
 holds-exact : (r A m b d n e : ℕ) → n ≤ m * e → 4800 * m ≤ b + r * d → 1000 * r ≤ 19950 * A
     → 1000 * (4800 * n) ≤ (19950 * A * d + 1000 * b) * e

@@ -1,5 +1,5 @@
 -- The bounds of the rules' figures, stated once: each figure is at most its bound of `specs/Bounds.antt`, T is above 0, and both sides of every
--- comparison of document 01 are below 2 ^ 53 with a capacity above 0.
+-- check are below 2 ^ 53 with a capacity above 0.
 -- Assumes nothing.
 use mathlib.Core.Bool.{Bool, true, false, cond}
 use Prim.Native.Nat.{ℕ, _+_, _-_, _*_, _≤_, _<_}

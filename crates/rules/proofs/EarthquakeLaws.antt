@@ -14,7 +14,7 @@ use Rattle.fields.specs.Range.{In}
 use Rattle.rules.specs.Bounds.{mostPlate, mostYield}
 use Rattle.rules.specs.Earthquake.{shellExact, shellWeight, rootMost, bottomRoot, capExact, bottomCap, bottomWeight, resistanceOf, Carried, Resists, resistanceMargin}
 
-shell-den : (W Av D : ℕ) → 0 < D → 0 < shellExact W Av D .den
+pub shell-den : (W Av D : ℕ) → 0 < D → 0 < shellExact W Av D .den
 unfolding shellExact
 shell-den W Av D p = omega arith
 
@@ -70,11 +70,11 @@ module _ (asked held y w most n : ℕ) where
 
 -- ---- wL is at most both of its bounds, and within one of the smaller
 
-module _ (D H tb Fy : ℕ) (fits : rootMost tb Fy H < 2 ^ 64) where
-  below-cap : bottomWeight tb Fy H D * 11250 ≤ H * D
-  unfolding bottomWeight capExact
-  below-cap = omega (arith, cap-rounded H D .safe)
+below-cap : (D H tb Fy : ℕ) → bottomWeight tb Fy H D * 11250 ≤ H * D
+unfolding bottomWeight capExact
+below-cap D H tb Fy = omega (arith, cap-rounded H D .safe)
 
+module _ (D H tb Fy : ℕ) (fits : rootMost tb Fy H < 2 ^ 64) where
   below-root : 12000000 * bottomWeight tb Fy H D * bottomWeight tb Fy H D ≤ rootMost tb Fy H
   unfolding bottomWeight bottomRoot
   below-root =
@@ -106,7 +106,7 @@ module _ (W Av D H tb Fy : ℕ) (d : 0 < D) (fits : rootMost tb Fy H < 2 ^ 64) (
       carried-safe _ _ _ w _ _
       (bears (f .num) (f .den) (D * D) (wt .num) (wt .den) (shellWeight W Av D) w _ h
       (down-safe (D * D * sum) 144000000 (omega arith)) (shell-rounded W Av D d .safe))
-      (below-cap D H tb Fy fits) (below-root D H tb Fy fits)
+      (below-cap D H tb Fy) (below-root D H tb Fy fits)
 
   pub resistance-near : 0 < f .den → Resists W Av D H tb Fy (plus f (resistanceMargin D))
       → f .num < resistanceOf D (shellWeight W Av D) (bottomWeight tb Fy H D) * f .den
@@ -132,3 +132,7 @@ module _ (W Av D H tb Fy : ℕ) (d : 0 < D) (fits : rootMost tb Fy H < 2 ^ 64) (
           (exceeds (f .num) (f .den) (D * D) (wt .num) (wt .den) (shellWeight W Av D) w T p wd l
           (down-near (D * D * (shellWeight W Av D + w)) 144000000 (omega arith)) (omega (arith, shell-rounded W Av D d .near)))
           (near-one D H tb Fy fits) k)
+
+pub resistance-margin-den : (D : ℕ) → 0 < resistanceMargin D .den
+unfolding resistanceMargin
+resistance-margin-den D = omega arith

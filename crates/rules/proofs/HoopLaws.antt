@@ -8,9 +8,18 @@ use Rattle.exact.specs.Quotient.{AtLeast}
 use Rattle.exact.proofs.QuotientLaws.{rounded-up}
 use Rattle.rules.specs.Hoop.{hoopExact, hoopNeed, plateMargin, plateFloor, requiredPlate}
 
+-- the divisors are above 0
+pub hoop-den : (h D s E : ℕ) → 0 < s → 0 < E → 0 < hoopExact h D s E .den
+unfolding hoopExact
+hoop-den h D s E p q = mul-pos (omega arith) q
+
+pub plate-margin-den : 0 < plateMargin .den
+unfolding plateMargin
+plate-margin-den = omega arith
+
 pub hoop-rounded : (h D s E : ℕ) → 0 < s → 0 < E → AtLeast (hoopExact h D s E) plateMargin (hoopNeed h D s E)
 unfolding hoopExact hoopNeed plateMargin
-hoop-rounded h D s E p q = rounded-up (hoopExact h D s E) (mul-pos (omega arith) q)
+hoop-rounded h D s E p q = rounded-up (hoopExact h D s E) (hoop-den h D s E p q)
 
 pub required-meets : (need c D t : ℕ) → requiredPlate need c D ≤ t → (need + c ≤ t) × (plateFloor D ≤ t)
 unfolding requiredPlate

@@ -52,9 +52,14 @@ moment-rounded Kz I v D Hs =
       near = omega (arith, through-near P p A M close (omega (arith, up-near n 345600000000 (omega arith))));
     })
 
+-- the divisors are above 0
 pub moment-den : (Kz I v D Hs : ℕ) → 0 < momentExact Kz I v D Hs .den
 unfolding momentExact pressureExact
 moment-den Kz I v D Hs = omega arith
+
+pub moment-margin-den : (D Hs : ℕ) → 0 < momentMargin D Hs .den
+unfolding momentMargin
+moment-margin-den D Hs = omega arith
 
 -- what the standard site's answer says: the pressure, or refusal 16 with field 7
 pub standard-says : (v : ℕ) → answerOf (standardSite v) ≡ standardAnswer v

@@ -44,8 +44,11 @@ unfoldable pub resistanceOf : ℕ → ℕ → ℕ → ℕ
 resistanceOf D wt wL = downOf (D * D * (wt + wL)) 144000000
 
 -- Uplift (document 01's lift): none if 1,000 × Ms is at most 785 × T, lift if at most 1,540 × T, else over.
+abbrev pub byUplift : {A : Type 0} → ℕ → ℕ → A → A → A → A
+byUplift Ms T none lift over = cond (leb (1000 * Ms) (785 * T)) none (cond (leb (1000 * Ms) (1540 * T)) lift over)
+
 unfoldable pub upliftOf : ℕ → ℕ → Uplift
-upliftOf Ms T = cond (leb (1000 * Ms) (785 * T)) None (cond (leb (1000 * Ms) (1540 * T)) Lift Over)
+upliftOf Ms T = byUplift Ms T None Lift Over
 
 -- What each case of it is called on paper,
 abbrev pub upliftWord : Uplift → List ℕ
@@ -54,7 +57,7 @@ upliftWord Lift = lift-word
 upliftWord Over = over-word
 
 unfoldable pub liftWord : ℕ → ℕ → List ℕ
-liftWord Ms T = cond (leb (1000 * Ms) (785 * T)) none-word (cond (leb (1000 * Ms) (1540 * T)) lift-word over-word)
+liftWord Ms T = byUplift Ms T none-word lift-word over-word
 
 -- and says of the check: it holds unless over.
 abbrev pub stands : Uplift → Bool
@@ -66,7 +69,8 @@ stands Over = false
 unfoldable pub quakeVerdict : ℕ → ℕ → Verdict
 quakeVerdict Ms T = verdictOf (1000 * Ms) (1540 * T)
 
--- x = (asked - held) / y is at most the cap, and either x is at most 0 or 12,000,000 × x × x is at most the root's number.
+-- x = (asked - held) / y is at most the cap, and either x is at most 0 or 12,000,000 × x × x is at most the root's number. (`-` cuts at 0,
+-- but there x is at most 0.)
 pub record Carried (asked held y : ℕ) (most : ℕ) (cap : Ratio) : Type 0 where
   pub by-cap : asked * cap .den ≤ held * cap .den + cap .num * y
   pub by-root : (asked ≤ held) ⊎ (12000000 * ((asked - held) * (asked - held)) ≤ most * (y * y))

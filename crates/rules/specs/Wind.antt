@@ -31,8 +31,11 @@ unfoldable pub momentMargin : ℕ → ℕ → Ratio
 momentMargin D Hs = record { num = D * Hs * Hs + 345600000000; den = 345600000000 }
 
 -- The standard site: Kz 109, I 115. Its pressure is asked by speed; a speed outside the range of field 7 is refused 16 with that field.
+abbrev pub bySpeed : {A : Type 0} → ℕ → (ℕ → A) → A → A
+bySpeed v given refused = cond (within (range 7) v) (given (pressureOf 109 115 v)) refused
+
 unfoldable pub standardSite : ℕ → SitePressure
-standardSite v = cond (within (range 7) v) (Given (pressureOf 109 115 v)) (Refused (OutOfRange 7))
+standardSite v = bySpeed v Given (Refused (OutOfRange 7))
 
 -- What each case of the answer says on paper: 0 and the pressure, or the refusal's number and field.
 pub record Answer : Type 0 where
@@ -48,4 +51,4 @@ answerOf (Refused r) = said (paperOf r .number) (paperOf r .field)
 
 -- so, of the standard site: its pressure, or 16 with field 7
 unfoldable pub standardAnswer : ℕ → Answer
-standardAnswer v = cond (within (range 7) v) (said 0 (pressureOf 109 115 v)) (said 16 7)
+standardAnswer v = bySpeed v (said 0) (said 16 7)

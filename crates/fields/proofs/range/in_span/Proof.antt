@@ -4,10 +4,9 @@ use mathlib.Core.Path.{_≡_}
 use mathlib.Core.List.{List, [], _∷_}
 use Prim.Native.Nat.{ℕ, _<_}
 use native.Mathlib.Omega.{arith}
-use lib.Dec.{eqb, eqb→eq}
 use lib.ListN.{getD}
 use borrow.Author.Needs.{needs}
-use Rattle.exact.proofs.Table.{at-each}
+use Rattle.exact.proofs.Table.{holds-rule}
 use Rattle.fields.specs.Range.{range}
 use Rattle.fields.proofs.RangeLaws.{above, below, inside, nowhere}
 use Rattle.fields.proofs.range.in_span.Statement.{statement}
@@ -21,10 +20,10 @@ greatests =
     0 ∷ 240000 ∷ 76800 ∷ 10000000 ∷ 500 ∷ 250 ∷ 50000 ∷ 150 ∷ 150 ∷ 125 ∷ 500 ∷ 1000000000 ∷ 200 ∷ 300000 ∷ 16 ∷ 14400 ∷ 2000 ∷ 250 ∷ 40000 ∷ 100 ∷ []
 
 least-at : (k : ℕ) → k < 20 → getD leasts k 0 ≡ range k .least
-least-at k h = eqb→eq _ _ (at-each (λ k. eqb (getD leasts k 0) (range k .least)) 20 tt k h)
+least-at = holds-rule leasts (λ k. range k .least) 20 tt
 
 greatest-at : (k : ℕ) → k < 20 → getD greatests k 0 ≡ range k .greatest
-greatest-at k h = eqb→eq _ _ (at-each (λ k. eqb (getD greatests k 0) (range k .greatest)) 20 tt k h)
+greatest-at = holds-rule greatests (λ k. range k .greatest) 20 tt
 
 returns : tie.Need-returns
 returns c = nowhere _ _ (c .if1 .taken)

@@ -4,6 +4,7 @@ use native.Mathlib.Omega.{arith}
 use borrow.Author.Needs.{needs}
 use Rattle.exact.proofs.Products.{mul-fits}
 use Rattle.rules.specs.Earthquake.{bottomRoot, rootMost}
+use Rattle.rules.proofs.EarthquakeLaws.{root-fits}
 use Rattle.rules.proofs.earthquake.bottom_root.Statement.{statement}
 use Rattle.rules.proofs.earthquake.bottom_root.Tie as tie
 
@@ -17,8 +18,8 @@ mul-greatest-root-3 : tie.Need-mul-greatest-root-3
 mul-greatest-root-3 c = mul-fits (mul-le-mul {n₂ = 3120500} (omega arith) (c .pre .0)) (c .pre .1 .0) tt
 
 mul-greatest-root-4 : tie.Need-mul-greatest-root-4
-mul-greatest-root-4 c =
-    mul-fits (mul-le-mul (mul-le-mul {n₂ = 3120500} (omega arith) (c .pre .0)) (c .pre .1 .0)) (c .pre .1 .1 .1) tt
+unfolding rootMost
+mul-greatest-root-4 c = record { fits = root-fits _ _ _ (c .pre .0) (c .pre .1 .0) (c .pre .1 .1) }
 
 greatest-root-requires : tie.Need-greatest-root-requires
 greatest-root-requires c κs = search needs

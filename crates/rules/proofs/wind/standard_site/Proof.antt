@@ -4,12 +4,11 @@ use mathlib.Core.Bool.{Bool, false, not}
 use mathlib.Core.List.{List, [], _∷_}
 use Prim.Native.Nat.{ℕ, _+_, _-_, _<_}
 use native.Mathlib.Omega.{arith}
-use lib.Dec.{eqb, eqb→eq}
 use lib.ListN.{getD}
 use borrow.Author.Needs.{needs}
 use borrow.Author.Tests.{eqb-false, not-true, not-false}
 use Rattle.exact.specs.Quotient.{upOf}
-use Rattle.exact.proofs.Table.{at-each}
+use Rattle.exact.proofs.Table.{holds-rule}
 use Rattle.fields.specs.Range.{range, within, In}
 use Rattle.fields.proofs.RangeLaws.{in-of-within}
 use Rattle.rules.specs.Wind.{pressureOf, standardSite, standardAnswer, answerOf}
@@ -25,7 +24,7 @@ chart = 1800 ∷ 1800 ∷ 1800 ∷ 1800 ∷ 1800 ∷ 1800 ∷ 1800 ∷ 1800 ∷ 
 -- the chart's place k is the speed 60 + k
 chart-at : (k : ℕ) → k < 91 → getD chart k 0 ≡ pressureOf 109 115 (60 + k)
 unfolding chart pressureOf upOf
-chart-at k h = eqb→eq _ _ (at-each (λ k. eqb (getD chart k 0) (pressureOf 109 115 (60 + k))) 91 tt k h)
+chart-at = holds-rule chart (λ k. pressureOf 109 115 (60 + k)) 91 tt
 
 in-chart : (v : ℕ) (b : Bool) → b ≡ within (range 7) v → not b ≡ false → In 7 v
 in-chart v b e t = in-of-within 7 v (eqb-false 7 12 refl) (sym e ∙ not-false b t)
