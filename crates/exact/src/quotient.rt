@@ -1,9 +1,8 @@
 // The quotient of two whole numbers, rounded to a stated side.
 ghost use mathlib.Core.Path.{_≡_};
 ghost use Prim.Native.Nat.{_<_};
-ghost use lib.IntN.{pos};
+ghost use lib.IntN.{pos, natAbs};
 ghost use lib.Signed.{_<ℤ_};
-ghost use lib.IntN.{natAbs};
 ghost use Rattle.exact.specs.Quotient.{downOf, upOf, upℤ};
 
 // Rounded down: the greatest n with n * den at most num.

@@ -1,6 +1,6 @@
 // The refusals (document 01, "Refusals that come from the input" and "from the state").
 ghost use mathlib.Core.Path.{_≡_};
-ghost use Rattle.fields.specs.Refusal.{paperOf};
+ghost use Rattle.fields.specs.Refusal.{paperOf, plain};
 
 pub enum Refusal {
     TooFewBytes,
@@ -29,76 +29,35 @@ pub struct Paper {
     pub field: u32,
 }
 
+// A refusal that gives no field.
+fn numbered(number: u32) -> Paper
+    ensures { λ r. ⌜ r ≡ plain number ⌝ }
+{
+    Paper { number, field: 0 }
+}
+
 impl Refusal {
     pub fn paper(self) -> Paper
         ensures { λ r. ⌜ r ≡ paperOf self ⌝ }
     {
         match self {
-            Refusal::TooFewBytes => Paper {
-                number: 11,
-                field: 0,
-            },
-            Refusal::TooManyBytes => Paper {
-                number: 12,
-                field: 0,
-            },
-            Refusal::BadLength => Paper {
-                number: 13,
-                field: 0,
-            },
-            Refusal::BadVersion => Paper {
-                number: 14,
-                field: 0,
-            },
-            Refusal::BadCount => Paper {
-                number: 15,
-                field: 0,
-            },
+            Refusal::TooFewBytes => numbered(11),
+            Refusal::TooManyBytes => numbered(12),
+            Refusal::BadLength => numbered(13),
+            Refusal::BadVersion => numbered(14),
+            Refusal::BadCount => numbered(15),
             Refusal::OutOfRange(field) => Paper { number: 16, field },
-            Refusal::AllowanceNotBelowPlate => Paper {
-                number: 17,
-                field: 0,
-            },
-            Refusal::BadAnchors => Paper {
-                number: 18,
-                field: 0,
-            },
-            Refusal::BufferTooShort => Paper {
-                number: 19,
-                field: 0,
-            },
-            Refusal::Unreachable => Paper {
-                number: 30,
-                field: 0,
-            },
-            Refusal::TankStated => Paper {
-                number: 31,
-                field: 0,
-            },
-            Refusal::NoTank => Paper {
-                number: 32,
-                field: 0,
-            },
-            Refusal::CoursesFull => Paper {
-                number: 33,
-                field: 0,
-            },
-            Refusal::ShellTooHigh => Paper {
-                number: 34,
-                field: 0,
-            },
-            Refusal::NoCourse => Paper {
-                number: 35,
-                field: 0,
-            },
-            Refusal::NoSite => Paper {
-                number: 36,
-                field: 0,
-            },
-            Refusal::WaterAboveShell => Paper {
-                number: 37,
-                field: 0,
-            },
+            Refusal::AllowanceNotBelowPlate => numbered(17),
+            Refusal::BadAnchors => numbered(18),
+            Refusal::BufferTooShort => numbered(19),
+            Refusal::Unreachable => numbered(30),
+            Refusal::TankStated => numbered(31),
+            Refusal::NoTank => numbered(32),
+            Refusal::CoursesFull => numbered(33),
+            Refusal::ShellTooHigh => numbered(34),
+            Refusal::NoCourse => numbered(35),
+            Refusal::NoSite => numbered(36),
+            Refusal::WaterAboveShell => numbered(37),
         }
     }
 }

@@ -1,5 +1,5 @@
 -- The bounds of the rules' figures, stated once: each figure is at most its bound of `specs/Bounds.antt`, T is above 0, and both sides of every
--- check are below 2 ^ 53 with a capacity above 0.
+-- comparison are below 2 ^ 53 with a capacity above 0.
 -- Assumes nothing.
 use mathlib.Core.Bool.{Bool, true, false, cond}
 use Prim.Native.Nat.{ℕ, _+_, _-_, _*_, _≤_, _<_}
@@ -110,6 +110,9 @@ self-wind-sides M W D h w d = record {
 
 pub quake-sides : (Ms T : ℕ) → In 11 Ms → 0 < T → T ≤ mostResistance → Sides (1000 * Ms) (1540 * T)
 quake-sides Ms T h p k = omega arith
+
+pub lift-sides : (Ms T : ℕ) → In 11 Ms → 0 < T → T ≤ mostResistance → Sides (1000 * Ms) (785 * T)
+lift-sides Ms T h p k = omega arith
 
 pub spacing-sides : (B N : ℕ) → In 13 B → In 12 N → Sides (355 * B) (1356000 * N)
 spacing-sides B N h k = omega arith
