@@ -35,6 +35,9 @@ FIELD_RANGES = {
 }
 WIND_FIELD = 7
 ANCHORS_FIELD = 12
+TANK_FIELDS = (1, 2, 3, 4, 5, 6)
+SITE_FIELDS = (7, 8, 9, 10, 11)
+ANCHOR_FIELDS = (12, 13, 14)
 COURSE_FIELDS = (15, 16, 17, 18, 19)
 
 MOST_COURSES = 12
@@ -80,6 +83,14 @@ def refusal_at(place, field):
     return number, field if number == FIELD_REFUSAL else 0
 
 
+def range_refusal(fields, figures):
+    """16 with the first field outside its range, or None."""
+    for field, figure in zip(fields, figures, strict=True):
+        if not field_in_range(field, figure):
+            return FIELD_REFUSAL, field
+    return None
+
+
 def course_refusal(tank_stated, courses_held, shell_height, course):
     """Order: 32, 33, 16, 17, 34. The course is its fields 15 to 19, in turn."""
     width, plate, allowance, _stress, _efficiency = course
@@ -87,9 +98,9 @@ def course_refusal(tank_stated, courses_held, shell_height, course):
         return 32, 0
     if courses_held == MOST_COURSES:
         return 33, 0
-    for field, figure in zip(COURSE_FIELDS, course):
-        if not field_in_range(field, figure):
-            return FIELD_REFUSAL, field
+    outside = range_refusal(COURSE_FIELDS, course)
+    if outside is not None:
+        return outside
     if allowance >= plate:
         return 17, 0
     if shell_height + width > MOST_SHELL_HEIGHT:

@@ -6,9 +6,9 @@ word on the tank, comes with judging.
 
 import document as doc
 
-D, H, W = 14_400, 28_800, 11_000
-V, Kz, I, Ms = 105, 109, 115, 30_000
-N, B, d = 6, 14_800, 8
+TANK = D, H, W, _plate, _allowance, _Fy = 14_400, 28_800, 11_000, 250, 0, 36_000
+SITE = V, Kz, I, _Av, Ms = 105, 109, 115, 27, 30_000
+ANCHORS = N, B, d = 6, 14_800, 8
 COURSES = [(9_600, 250, 0, 15_000, 85)] * 3  # width, t, c, s, E
 
 

@@ -1,3 +1,4 @@
 -- The laws that callers' proofs cite.
 pub mod RangeLaws
 pub mod BoltLaws
+pub mod RefusalLaws

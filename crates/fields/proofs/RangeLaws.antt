@@ -2,13 +2,14 @@
 -- Assumes nothing.
 use mathlib.Core.Path.{_≡_, refl, sym, ap, _∙_, subst}
 use mathlib.Core.Bool.{Bool, true, false, not, _&&_, _||_}
+use mathlib.Core.Logic.{_⊎_, inl, inr}
 use Prim.Native.Nat.{ℕ, zero, suc, _≤_, _<_}
 use native.Mathlib.Nat.{lt-of-not-le, le-of-suc-le-suc}
 use native.Mathlib.Decide.{decLe}
 use native.Mathlib.Omega.{arith}
-use lib.Dec.{T, leb, eqb, leb→le}
+use lib.Dec.{T, leb, eqb, leb→le, eqb→eq}
 use lib.ListN.{List·getD-eq-default}
-use mir.Facts.{and-yes}
+use mir.Facts.{and-yes, or-yes}
 use borrow.Author.Tests.{le-leb, lt-leb, ne-eqb}
 use Rattle.exact.proofs.Table.{at-each}
 use Rattle.fields.specs.Range.{Range, ranges, range, _to_, between, within, In}
@@ -84,3 +85,19 @@ within-none k x e z = rw (e, z)
 -- a figure that is in the range of a field other than N is between its ends
 pub in-of-within : (k x : ℕ) → (k ≡ 12 → ⊥) → within (range k) x ≡ true → In k x
 in-of-within k x h e = in-of-between k x (subst T (sym (within-plain k x h ∙ e)) tt)
+
+-- no figure that is in a range is above the greatest of them all
+abbrev at-most : ℕ → Bool
+at-most k = leb (range k .greatest) 1000000000
+
+pub within-most : (k x : ℕ) → within (range k) x ≡ true → x ≤ 1000000000
+unfolding within
+within-most k x e = go (or-yes (range k .orZero && eqb x 0) (between (range k) x) (subst T (sym e) tt))
+  where
+    top : Dec (k ≤ 19) → range k .greatest ≤ 1000000000
+    top (yes l) = leb→le (range k .greatest) 1000000000 (at-each at-most 20 tt k (omega arith))
+    top (no f) = subst (λ (r : Range). r .greatest ≤ 1000000000) (sym (none-past k (lt-of-not-le f))) (omega arith)
+
+    go : T (range k .orZero && eqb x 0) ⊎ T (between (range k) x) → x ≤ 1000000000
+    go (inl z) = omega (arith, eqb→eq x 0 (and-yes (range k .orZero) (eqb x 0) z .1))
+    go (inr b) = omega (arith, in-of-between k x b .1, top (decLe k 19))

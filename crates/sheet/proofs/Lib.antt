@@ -1,0 +1,12 @@
+-- The laws that callers' proofs cite.
+pub mod OrderLaws
+pub mod EachLaws
+pub mod CourseLaws
+pub mod StepLaws
+pub mod ReachLaws
+pub mod RebuildLaws
+pub mod HeaderLaws
+pub mod ByteLaws
+pub mod WriteLaws
+pub mod RoundTrip
+pub mod AnswerLaws

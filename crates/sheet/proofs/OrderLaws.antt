@@ -1,0 +1,159 @@
+-- The laws of orders: which refusal is the answer, and how an order is gone through part by part.
+-- Assumes nothing.
+use mathlib.Core.Path.{_≡_, refl, sym, ap, _∙_}
+use mathlib.Core.Bool.{Bool, true, false, cond}
+use mathlib.Core.List.{List, [], _∷_, _++_}
+use mathlib.Core.Logic.{_↔_}
+use Prim.Native.Nat.{ℕ, zero, suc, _+_, _≤_, _<_, zero-le, suc-le-suc}
+use native.Mathlib.Nat.{le-of-suc-le-suc, not-suc-le-zero}
+use native.Mathlib.Numerals.{add-one}
+use native.Mathlib.Omega.{arith}
+use lib.Dec.{T}
+use lib.ListN.{length, getD, drop, drop-of-length-le}
+use lib.Seq.{drop-cons}
+use Rattle.fields.specs.Range.{range, within}
+use Rattle.fields.specs.declared.refusal.Refusal.the-variants.{OutOfRange}
+use Rattle.fields.specs.declared.refusal.Refusal.{Refusal}
+use Rattle.sheet.specs.Order.{Condition, firstOf, orElse, at, First, accepts, clear, outside}
+use Rattle.sheet.specs.declared.entries.Answer.{Answer}
+use Rattle.sheet.specs.declared.entries.Answer.the-variants.{Accepted, Refused}
+
+-- THE LAW OF EVERY ORDER: the answer is the refusal r exactly where r's condition holds at some place and none before it does.
+to-first : (cs : List Condition) (r : Refusal) → firstOf cs ≡ Refused r → First cs r
+to-first [] r e = absurd (let z : _≡_ {A = ℕ} 0 1 = cc in omega arith)
+to-first (c ∷ cs) r e = go (to-first cs r) (c .holds) refl e
+  where
+    later : First cs r → c .holds ≡ false → First (c ∷ cs) r
+    later f h =
+        record {
+          place = suc (f .place);
+          inside = suc-le-suc (f .inside);
+          refusal = f .refusal;
+          holds = f .holds;
+          none-before = before;
+        }
+      where
+        before : (j : ℕ) → j < suc (f .place) → at (c ∷ cs) j .holds ≡ false
+        before zero l = h
+        before (suc j) l = f .none-before j (le-of-suc-le-suc l)
+
+    go : (firstOf cs ≡ Refused r → First cs r) → (b : Bool) → c .holds ≡ b → cond b (Refused (c .refusal)) (firstOf cs) ≡ Refused r
+        → First (c ∷ cs) r
+    go rest true h k =
+        record {
+          place = 0;
+          inside = suc-le-suc zero-le;
+          refusal = cc;
+          holds = h;
+          none-before = λ j l. absurd (not-suc-le-zero l);
+        }
+    go rest false h k = later (rest k) h
+
+of-first : (cs : List Condition) (r : Refusal) (k : ℕ) → k < length cs → at cs k .refusal ≡ r → at cs k .holds ≡ true
+    → ((j : ℕ) → j < k → at cs j .holds ≡ false) → firstOf cs ≡ Refused r
+of-first [] r k l e h n = absurd (not-suc-le-zero l)
+of-first (c ∷ cs) r zero l e h n = rw h (ap Refused e)
+of-first (c ∷ cs) r (suc k) l e h n =
+    rw (n 0 (suc-le-suc zero-le)) (of-first cs r k (le-of-suc-le-suc l) e h (λ j i. n (suc j) (suc-le-suc i)))
+
+pub first-exactly : (cs : List Condition) (r : Refusal) → (firstOf cs ≡ Refused r) ↔ First cs r
+first-exactly cs r =
+    (to-first cs r, λ f. of-first cs r (f .place) (f .inside) (f .refusal) (f .holds) (f .none-before))
+
+-- and it is accepted exactly where no condition holds
+pub none-exactly : (cs : List Condition) → (firstOf cs ≡ Accepted) ↔ ((j : ℕ) → j < length cs → at cs j .holds ≡ false)
+none-exactly [] = (λ e j l. absurd (not-suc-le-zero l), λ n. refl)
+none-exactly (c ∷ cs) = (
+  there (none-exactly cs .0) (c .holds) refl,
+  λ n. rw (n 0 (suc-le-suc zero-le)) (none-exactly cs .1 (λ j l. n (suc j) (suc-le-suc l))),
+)
+  where
+    step : c .holds ≡ false → ((j : ℕ) → j < length cs → at cs j .holds ≡ false)
+        → (j : ℕ) → j < suc (length cs) → at (c ∷ cs) j .holds ≡ false
+    step h n zero l = h
+    step h n (suc j) l = n j (le-of-suc-le-suc l)
+
+    there : (firstOf cs ≡ Accepted → (j : ℕ) → j < length cs → at cs j .holds ≡ false)
+        → (b : Bool) → c .holds ≡ b → cond b (Refused (c .refusal)) (firstOf cs) ≡ Accepted
+        → (j : ℕ) → j < suc (length cs) → at (c ∷ cs) j .holds ≡ false
+    there rest true h e = absurd (let z : _≡_ {A = ℕ} 0 1 = cc in omega arith)
+    there rest false h e = step h (rest e)
+
+-- an order part by part
+pub first-past : (xs ys : List Condition) → firstOf xs ≡ Accepted → firstOf (xs ++ ys) ≡ firstOf ys
+first-past [] ys e = refl
+first-past (x ∷ xs) ys e = go (first-past xs ys) (x .holds) e
+  where
+    go : (firstOf xs ≡ Accepted → firstOf (xs ++ ys) ≡ firstOf ys) → (b : Bool) → cond b (Refused (x .refusal)) (firstOf xs) ≡ Accepted
+        → cond b (Refused (x .refusal)) (firstOf (xs ++ ys)) ≡ firstOf ys
+    go rest true e = absurd (let z : _≡_ {A = ℕ} 0 1 = cc in omega arith)
+    go rest false e = rest e
+
+pub first-here : (xs ys : List Condition) (r : Refusal) → firstOf xs ≡ Refused r → firstOf (xs ++ ys) ≡ Refused r
+first-here [] ys r e = absurd (let z : _≡_ {A = ℕ} 0 1 = cc in omega arith)
+first-here (x ∷ xs) ys r e = go (first-here xs ys r) (x .holds) e
+  where
+    go : (firstOf xs ≡ Refused r → firstOf (xs ++ ys) ≡ Refused r) → (b : Bool) → cond b (Refused (x .refusal)) (firstOf xs) ≡ Refused r
+        → cond b (Refused (x .refusal)) (firstOf (xs ++ ys)) ≡ Refused r
+    go rest true e = e
+    go rest false e = rest e
+
+pub first-or-else : (xs : List Condition) (c : Condition) → firstOf (xs ++ c ∷ []) ≡ orElse (firstOf xs) c
+first-or-else [] c = refl
+first-or-else (x ∷ xs) c = go (first-or-else xs c) (x .holds)
+  where
+    go : firstOf (xs ++ c ∷ []) ≡ orElse (firstOf xs) c → (b : Bool)
+        → cond b (Refused (x .refusal)) (firstOf (xs ++ c ∷ [])) ≡ orElse (cond b (Refused (x .refusal)) (firstOf xs)) c
+    go rest true = refl
+    go rest false = rest
+
+pub first-cons : (c : Condition) (cs : List Condition) → firstOf (c ∷ cs) ≡ Accepted → (c .holds ≡ false) × (firstOf cs ≡ Accepted)
+first-cons c cs e = go (c .holds) e
+  where
+    go : (b : Bool) → cond b (Refused (c .refusal)) (firstOf cs) ≡ Accepted → (b ≡ false) × (firstOf cs ≡ Accepted)
+    go true e = absurd (let z : _≡_ {A = ℕ} 0 1 = cc in omega arith)
+    go false e = (refl, e)
+
+pub first-append : (xs ys : List Condition) → firstOf (xs ++ ys) ≡ Accepted → (firstOf xs ≡ Accepted) × (firstOf ys ≡ Accepted)
+first-append [] ys e = (refl, e)
+first-append (x ∷ xs) ys e = go (first-append xs ys) (x .holds) e
+  where
+    go : (firstOf (xs ++ ys) ≡ Accepted → (firstOf xs ≡ Accepted) × (firstOf ys ≡ Accepted)) → (b : Bool)
+        → cond b (Refused (x .refusal)) (firstOf (xs ++ ys)) ≡ Accepted
+        → (cond b (Refused (x .refusal)) (firstOf xs) ≡ Accepted) × (firstOf ys ≡ Accepted)
+    go rest true e = absurd (let z : _≡_ {A = ℕ} 0 1 = cc in omega arith)
+    go rest false e = rest e
+
+-- the test `clear`, and the answer
+pub clear-accepted : (cs : List Condition) → T (clear cs) → firstOf cs ≡ Accepted
+unfolding clear
+clear-accepted cs t = go (firstOf cs) t
+  where
+    go : (a : Answer) → T (accepts a) → a ≡ Accepted
+    go Accepted t = refl
+    go (Refused r) t = absurd t
+
+pub accepted-clear : (cs : List Condition) → firstOf cs ≡ Accepted → T (clear cs)
+unfolding clear
+accepted-clear cs e = rw e tt
+
+-- 16, field by field, from place i of the figures on
+module _ (k i : ℕ) (xs : List ℕ) where
+  pub outside-here : i < length xs → within (range k) (getD xs i 0) ≡ false → firstOf (outside k (drop i xs)) ≡ Refused (OutOfRange k)
+  outside-here l e = rw (drop-cons xs i 0 l, e)
+
+  pub outside-next : i < length xs → within (range k) (getD xs i 0) ≡ true
+      → firstOf (outside k (drop i xs)) ≡ firstOf (outside (k + 1) (drop (i + 1) xs))
+  outside-next l e = rw (drop-cons xs i 0 l, e, add-one k, add-one i)
+
+  pub outside-end : length xs ≤ i → firstOf (outside k (drop i xs)) ≡ Accepted
+  outside-end l = rw (drop-of-length-le xs l)
+
+-- a step's ranges, and the one condition after them
+pub flaws-of : (k : ℕ) (xs : List ℕ) (c : Condition) {ys : List ℕ} {a b : Answer}
+    → b ≡ orElse a c → a ≡ firstOf (outside k ys) → ys ≡ xs → b ≡ firstOf (outside k xs ++ c ∷ [])
+flaws-of k xs c e f g = e ∙ ap (λ (a : Answer). orElse a c) (f ∙ ap (λ (l : List ℕ). firstOf (outside k l)) g) ∙ sym (first-or-else (outside k xs) c)
+
+pub clear-of : (cs : List Condition) {a : Answer} {b : Bool} → b ≡ accepts a → a ≡ firstOf cs → clear cs ≡ b
+unfolding clear
+clear-of cs e f = sym (e ∙ ap accepts f)

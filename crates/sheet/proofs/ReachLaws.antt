@@ -1,0 +1,224 @@
+-- What the test `reachable` says of a sheet, and that every step keeps it (`step-reachable`, `run-reachable`). That it passes exactly the
+-- sheets that some run of steps leaves is in RebuildLaws.
+-- Assumes nothing.
+use mathlib.Core.Path.{_≡_, refl, sym, ap, _∙_, subst}
+use mathlib.Core.Bool.{Bool, true, false, not, _&&_}
+use mathlib.Core.List.{List, [], _∷_, _++_}
+use Prim.Native.Nat.{ℕ, suc, _+_, _-_, _≤_, _<_}
+use native.Mathlib.Numerals.{add-one}
+use native.Mathlib.Omega.{arith}
+use lib.Dec.{T, leb, ltb, eqb}
+use lib.ListN.{length, getD, take, drop, set, length-set}
+use lib.Seq.{take-suc-set, drop-set-lt, drop-cons}
+use mir.Facts.{and-yes, yes-and, leb-yes, yes-leb, eqb-yes, yes-eqb}
+use borrow.Author.Tests.{leb-false, ltb-false}
+use Rattle.fields.specs.Range.{between, within}
+use Rattle.fields.specs.declared.refusal.Refusal.the-variants.{TankStated, NoTank, CoursesFull, ShellTooHigh}
+use Rattle.sheet.specs.Order.{_when_, firstOf, clear}
+use Rattle.sheet.specs.Sheet.{anchorFigures, courseFigures, blankCourse, emptySheet, held, heightOf, badAnchors, tankFlaws, siteFlaws, anchorFlaws, courseFlaws}
+use Rattle.sheet.specs.Steps.{Step, stateTank, stateSite, stateAnchors, addCourse, tankBlank, diameterOf, orderOf, filled, replied, taken, run, blank, siteBlank, siteClear, coursesClear, coursesBlank, slotsReachable, partsReachable, reachable}
+use Rattle.sheet.specs.declared.entries.Tank.{Tank}
+use Rattle.sheet.specs.declared.entries.Anchors.{Anchors}
+use Rattle.sheet.specs.declared.entries.Course.{Course}
+use Rattle.sheet.specs.declared.entries.TankEntry as TankEntry
+use Rattle.sheet.specs.declared.entries.SiteEntry as SiteEntry
+use Rattle.sheet.specs.declared.entries.Sheet.{Sheet}
+use Rattle.sheet.specs.declared.entries.Reply.{Reply}
+use Rattle.sheet.specs.declared.entries.Answer.{Answer}
+use Rattle.sheet.specs.declared.entries.Answer.the-variants.{Accepted, Refused}
+use Rattle.sheet.proofs.OrderLaws.{accepted-clear, first-cons, first-append}
+use Rattle.sheet.proofs.EachLaws.{append-each}
+use Rattle.sheet.proofs.CourseLaws.{height-append}
+
+-- ---- what the test says
+
+pub record Slots (cs : List Course) (n : ℕ) : Type 0 where
+  pub twelve : length cs ≡ 12
+  pub few : n ≤ 12
+  pub clear : T (coursesClear (take n cs))
+  pub low : heightOf (take n cs) ≤ 76800
+  pub rest : T (coursesBlank (drop n cs))
+
+-- several tests at once
+pub T-true : (b : Bool) → T b → b ≡ true
+T-true true t = refl
+T-true false t = absurd t
+
+module _ (a b c : Bool) where
+  pub three-yes : T (a && b && c) → T a × T b × T c
+  three-yes h = let d = and-yes (a && b) c h in let e = and-yes a b (d .0) in (e .0, e .1, d .1)
+
+  pub yes-three : T a → T b → T c → T (a && b && c)
+  yes-three x y z = yes-and (a && b) c (yes-and a b x y) z
+
+module _ (cs : List Course) (n : ℕ) where
+  abbrev p : Bool
+  p = eqb (length cs) 12 && leb n 12 && coursesClear (take n cs)
+
+  pub slots-of : T (slotsReachable cs n) → Slots cs n
+  unfolding slotsReachable
+  slots-of h =
+      let b = three-yes p (leb (heightOf (take n cs)) 76800) (coursesBlank (drop n cs)) h in
+      let a = three-yes (eqb (length cs) 12) (leb n 12) (coursesClear (take n cs)) (b .0) in
+      record { twelve = eqb-yes (a .0); few = leb-yes (a .1); clear = a .2; low = leb-yes (b .1); rest = b .2 }
+
+  pub of-slots : Slots cs n → T (slotsReachable cs n)
+  unfolding slotsReachable
+  of-slots s =
+      yes-three p (leb (heightOf (take n cs)) 76800) (coursesBlank (drop n cs))
+      (yes-three (eqb (length cs) 12) (leb n 12) (coursesClear (take n cs)) (yes-eqb (s .twelve)) (yes-leb (s .few)) (s .clear))
+      (yes-leb (s .low))
+      (s .rest)
+
+module _ (s : Sheet) where
+  pub reach-halves : T (reachable s) → T (slotsReachable (s .courses) (s .count)) × T (partsReachable (s .tank) (s .site) (s .anchors) (s .count))
+  unfolding reachable
+  reach-halves h = and-yes (slotsReachable (s .courses) (s .count)) (partsReachable (s .tank) (s .site) (s .anchors) (s .count)) h
+
+  pub halves-reach : Slots (s .courses) (s .count) → T (partsReachable (s .tank) (s .site) (s .anchors) (s .count)) → T (reachable s)
+  unfolding reachable
+  halves-reach a b =
+      yes-and (slotsReachable (s .courses) (s .count)) (partsReachable (s .tank) (s .site) (s .anchors) (s .count))
+      (of-slots (s .courses) (s .count) a)
+      b
+
+  pub reach-slots : T (reachable s) → Slots (s .courses) (s .count)
+  reach-slots h = slots-of (s .courses) (s .count) (reach-halves h .0)
+
+-- ---- every step keeps it
+
+-- no anchors suit every tank, so that a tank may be stated over them
+none-clear : (D : ℕ) (a : Anchors) → T (blank (anchorFigures a)) → T (clear (anchorFlaws D a))
+unfolding clear anchorFlaws badAnchors within between
+none-clear D a h =
+    let b = and-yes (eqb (a .number) 0) (blank (a .circle ∷ a .size ∷ [])) h in
+    let c = and-yes (eqb (a .circle) 0) (blank (a .size ∷ [])) (b .1) in
+    let d = and-yes (eqb (a .size) 0) true (c .1) in
+    let x : a .number ≡ 0 = eqb-yes (b .0) in
+    let y : a .circle ≡ 0 = eqb-yes (c .0) in
+    let z : a .size ≡ 0 = eqb-yes (d .0) in
+    rw (x, y, z) tt
+
+site-blank-clear : (x : SiteEntry.SiteEntry) → T (siteBlank x) → T (siteClear x)
+site-blank-clear SiteEntry.the-variants.Blank h = tt
+site-blank-clear (SiteEntry.the-variants.Filled x) h = absurd h
+
+-- one course more
+course-slots : (cs : List Course) (n : ℕ) (c : Course) → Slots cs n → n < 12 → T (clear (courseFlaws c))
+    → heightOf (take n cs) + c .width ≤ 76800 → Slots (set cs n c) (n + 1)
+unfolding coursesClear coursesBlank
+course-slots cs n c s h k l =
+    let e : take (n + 1) (set cs n c) ≡ take n cs ++ (c ∷ []) = rw (add-one n) (take-suc-set cs n c (omega (arith, s .twelve))) in
+    record {
+      twelve = length-set cs n c ∙ s .twelve;
+      few = omega arith;
+      clear = rw e (append-each (λ x. clear (courseFlaws x)) (take n cs) (c ∷ []) (s .clear) (yes-and (clear (courseFlaws c)) true k tt));
+      low = rw e (omega (arith, height-append (take n cs) (c ∷ [])));
+      rest = rw (add-one n, drop-set-lt (suc n) cs n c (omega arith)) (and-yes (blank (courseFigures (getD cs n blankCourse))) (coursesBlank (drop (suc n) cs)) (rw (drop-cons cs n blankCourse (omega (arith, s .twelve))) at (s .rest)) .1);
+    }
+
+-- what the first condition of an order says of the tank
+tank-entry-blank : (e : TankEntry.TankEntry) → not (tankBlank e) ≡ false → e ≡ TankEntry.the-variants.Blank
+tank-entry-blank TankEntry.the-variants.Blank h = refl
+tank-entry-blank (TankEntry.the-variants.Filled t) h = absurd (subst T h tt)
+
+pub record Held (e : TankEntry.TankEntry) : Type 0 where
+  pub tank : Tank
+  pub is : e ≡ TankEntry.the-variants.Filled tank
+
+pub tank-entry-held : (e : TankEntry.TankEntry) → tankBlank e ≡ false → Held e
+tank-entry-held TankEntry.the-variants.Blank h = absurd (subst T h tt)
+tank-entry-held (TankEntry.the-variants.Filled t) h = record { tank = t; is = refl }
+
+module _ (s : Sheet) (h : T (reachable s)) where
+  parts : T (partsReachable (s .tank) (s .site) (s .anchors) (s .count))
+  parts = reach-halves s h .1
+
+  pub parts-held : (d : Held (s .tank)) → T (clear (tankFlaws (d .tank))) × T (siteClear (s .site)) × T (clear (anchorFlaws (d .tank .diameter) (s .anchors)))
+  parts-held d =
+      three-yes (clear (tankFlaws (d .tank))) (siteClear (s .site)) (clear (anchorFlaws (d .tank .diameter) (s .anchors)))
+      (subst (λ (e : TankEntry.TankEntry). T (partsReachable e (s .site) (s .anchors) (s .count))) (d .is) parts)
+
+  held-parts : (d : Held (s .tank)) (x : SiteEntry.SiteEntry) (a : Anchors) (n : ℕ) → T (siteClear x) → T (clear (anchorFlaws (d .tank .diameter) a))
+      → T (partsReachable (s .tank) x a n)
+  held-parts d x a n y z =
+      subst (λ (e : TankEntry.TankEntry). T (partsReachable e x a n)) (sym (d .is))
+      (yes-three (clear (tankFlaws (d .tank))) (siteClear x) (clear (anchorFlaws (d .tank .diameter) a)) (parts-held d .0) y z)
+
+  pub filled-reachable : (x : Step) → firstOf (orderOf s x) ≡ Accepted → T (reachable (filled s x))
+  filled-reachable (stateTank t) e =
+      let o = first-cons (TankStated when not (tankBlank (s .tank))) (tankFlaws t) e in
+      let b = three-yes (siteBlank (s .site)) (blank (anchorFigures (s .anchors))) (eqb (s .count) 0)
+      (subst (λ (e : TankEntry.TankEntry). T (partsReachable e (s .site) (s .anchors) (s .count))) (tank-entry-blank (s .tank) (o .0)) parts) in
+      halves-reach (filled s (stateTank t)) (reach-slots s h)
+      (yes-three (clear (tankFlaws t)) (siteClear (s .site)) (clear (anchorFlaws (t .diameter) (s .anchors)))
+      (accepted-clear (tankFlaws t) (o .1))
+      (site-blank-clear (s .site) (b .0))
+      (none-clear (t .diameter) (s .anchors) (b .1)))
+  filled-reachable (stateSite x) e =
+      let o = first-cons (NoTank when tankBlank (s .tank)) (siteFlaws x) e in
+      let d = tank-entry-held (s .tank) (o .0) in
+      halves-reach (filled s (stateSite x)) (reach-slots s h)
+      (held-parts d (SiteEntry.the-variants.Filled x) (s .anchors) (s .count) (accepted-clear (siteFlaws x) (o .1)) (parts-held d .2))
+  filled-reachable (stateAnchors a) e =
+      let o = first-cons (NoTank when tankBlank (s .tank)) (anchorFlaws (diameterOf (s .tank)) a) e in
+      let d = tank-entry-held (s .tank) (o .0) in
+      halves-reach (filled s (stateAnchors a)) (reach-slots s h)
+      (held-parts d (s .site) a (s .count) (parts-held d .1)
+      (accepted-clear (anchorFlaws (d .tank .diameter) a) (subst (λ (e : TankEntry.TankEntry). firstOf (anchorFlaws (diameterOf e) a) ≡ Accepted) (d .is) (o .1))))
+  filled-reachable (addCourse c) e =
+      let high = ShellTooHigh when ltb 76800 (heightOf (held s) + c .width) in
+      let o = first-cons (NoTank when tankBlank (s .tank)) ((CoursesFull when leb 12 (s .count)) ∷ (courseFlaws c ++ high ∷ [])) e in
+      let f = first-cons (CoursesFull when leb 12 (s .count)) (courseFlaws c ++ high ∷ []) (o .1) in
+      let g = first-append (courseFlaws c) (high ∷ []) (f .1) in
+      let d = tank-entry-held (s .tank) (o .0) in
+      halves-reach (filled s (addCourse c))
+      (course-slots (s .courses) (s .count) c (reach-slots s h) (leb-false 12 (s .count) (f .0)) (accepted-clear (courseFlaws c) (g .0)) (ltb-false 76800 (heightOf (held s) + c .width) (first-cons high [] (g .1) .0)))
+      (held-parts d (s .site) (s .anchors) (s .count + 1) (parts-held d .1) (parts-held d .2))
+
+  -- A STEP ON A SHEET THAT PASSES THE TEST LEAVES ONE THAT DOES
+  pub step-reachable : (x : Step) → T (reachable (taken s x .sheet))
+  unfolding taken
+  step-reachable x = go (firstOf (orderOf s x)) (filled-reachable x)
+    where
+      go : (a : Answer) → (a ≡ Accepted → T (reachable (filled s x))) → T (reachable (replied a s (filled s x) .sheet))
+      go Accepted f = f refl
+      go (Refused r) f = h
+
+-- a step that is accepted
+pub taken-accepted : (s : Sheet) (x : Step) → taken s x .answer ≡ Accepted → (firstOf (orderOf s x) ≡ Accepted) × (taken s x .sheet ≡ filled s x)
+unfolding taken
+taken-accepted s x e = go (firstOf (orderOf s x)) e
+  where
+    go : (a : Answer) → replied a s (filled s x) .answer ≡ Accepted → (a ≡ Accepted) × (replied a s (filled s x) .sheet ≡ filled s x)
+    go Accepted e = (refl, refl)
+    go (Refused r) e = absurd (let z : _≡_ {A = ℕ} 0 1 = cc in omega arith)
+
+pub held-next : (s : Sheet) (c : Course) → T (reachable s) → firstOf (orderOf s (addCourse c)) ≡ Accepted
+    → held (filled s (addCourse c)) ≡ held s ++ (c ∷ [])
+held-next s c h e =
+    let high = ShellTooHigh when ltb 76800 (heightOf (held s) + c .width) in
+    let o = first-cons (NoTank when tankBlank (s .tank)) ((CoursesFull when leb 12 (s .count)) ∷ (courseFlaws c ++ high ∷ [])) e in
+    let f = leb-false 12 (s .count) (first-cons (CoursesFull when leb 12 (s .count)) (courseFlaws c ++ high ∷ []) (o .1) .0) in
+    rw (add-one (s .count)) (take-suc-set (s .courses) (s .count) c (omega (arith, f, reach-slots s h .twelve)))
+
+-- a course that is accepted adds its width
+pub added-height : (s : Sheet) (c : Course) (y : Reply) → y ≡ taken s (addCourse c) → T (reachable s) → y .answer ≡ Accepted
+    → heightOf (held (y .sheet)) ≡ heightOf (held s) + c .width
+added-height s c y e h a =
+    let t = taken-accepted s (addCourse c) (ap (λ (z : Reply). z .answer) (sym e) ∙ a) in
+    ap (λ (z : Reply). heightOf (held (z .sheet))) e
+    ∙ ap (λ (z : Sheet). heightOf (held z)) (t .1)
+    ∙ ap heightOf (held-next s c h (t .0))
+    ∙ omega (arith, height-append (held s) (c ∷ []))
+
+pub reply-reachable : (s : Sheet) (x : Step) (y : Reply) → y ≡ taken s x → T (reachable s) → T (reachable (y .sheet))
+reply-reachable s x y e h = subst (λ (z : Reply). T (reachable (z .sheet))) (sym e) (step-reachable s h x)
+
+pub empty-reachable : T (reachable emptySheet)
+unfolding reachable slotsReachable coursesClear coursesBlank
+empty-reachable = tt
+
+pub run-reachable : (xs : List Step) (s : Sheet) → T (reachable s) → T (reachable (run s xs))
+run-reachable [] s h = h
+run-reachable (x ∷ xs) s h = run-reachable xs (taken s x .sheet) (step-reachable s h x)

@@ -1,0 +1,229 @@
+-- A reachable sheet is rebuilt by stating what it holds (`rebuilt`); so the test passes exactly the sheets that some run of steps leaves
+-- (`left-exactly`).
+-- Assumes nothing.
+use mathlib.Core.Path.{_≡_, refl, sym, ap, _∙_, subst}
+use mathlib.Core.Bool.{Bool, true}
+use mathlib.Core.List.{List, [], _∷_, _++_, map, append-nil}
+use mathlib.Core.Logic.{_↔_}
+use Prim.Native.Nat.{ℕ, suc, _+_, _-_, _≤_, _<_}
+use native.Mathlib.Omega.{arith}
+use lib.Dec.{T, eqb}
+use lib.ListN.{length, take, drop, set, replicate, take-append-drop, length-append, length-drop}
+use lib.Seq.{length-take-le, set-append-seam, take-append-seam, append-snoc}
+use mir.Facts.{and-yes, eqb-yes}
+use borrow.Author.Tests.{le-ltb}
+use Rattle.fields.specs.declared.refusal.Refusal.{Refusal}
+use Rattle.sheet.specs.Order.{clear}
+use Rattle.sheet.specs.Sheet.{anchorFigures, courseFigures, noAnchors, blankCourse, emptySheet, held, heightOf, tankFlaws, siteFlaws, anchorFlaws, courseFlaws}
+use Rattle.sheet.specs.Steps.{Step, stateTank, stateSite, stateAnchors, addCourse, accepted, refused, taken, run, LeftByRun, blank, siteBlank, siteClear, coursesClear, coursesBlank, partsReachable, reachable, unless, inTurn}
+use Rattle.sheet.specs.declared.entries.Tank.{Tank}
+use Rattle.sheet.specs.declared.entries.Site.{Site}
+use Rattle.sheet.specs.declared.entries.Anchors.{Anchors}
+use Rattle.sheet.specs.declared.entries.Course.{Course}
+use Rattle.sheet.specs.declared.entries.TankEntry as TankEntry
+use Rattle.sheet.specs.declared.entries.SiteEntry as SiteEntry
+use Rattle.sheet.specs.declared.entries.Sheet.{Sheet}
+use Rattle.sheet.specs.declared.entries.Reply.{Reply}
+use Rattle.sheet.specs.declared.entries.Answer.{Answer}
+use Rattle.sheet.specs.declared.entries.Answer.the-variants.{Accepted, Refused}
+use Rattle.sheet.proofs.OrderLaws.{clear-accepted}
+use Rattle.sheet.proofs.CourseLaws.{height-append}
+use Rattle.sheet.proofs.StepLaws.{tank-taken, site-taken, anchors-taken, course-taken}
+use Rattle.sheet.proofs.ReachLaws.{Slots, Held, three-yes, reach-halves, reach-slots, parts-held, empty-reachable, run-reachable}
+
+-- ---- a reachable sheet is its parts, with blank slots behind its courses
+
+abbrev pub padded : List Course → List Course
+padded h = h ++ replicate (12 - length h) blankCourse
+
+abbrev pub sheetOf : TankEntry.TankEntry → SiteEntry.SiteEntry → Anchors → List Course → Sheet
+sheetOf e x a h = record { tank = e; site = x; anchors = a; courses = padded h; count = length h }
+
+blank-course : (c : Course) → T (blank (courseFigures c)) → c ≡ blankCourse
+blank-course c h =
+    let a = and-yes (eqb (c .width) 0) (blank (c .plate ∷ c .allowance ∷ c .stress ∷ c .efficiency ∷ [])) h in
+    let b = and-yes (eqb (c .plate) 0) (blank (c .allowance ∷ c .stress ∷ c .efficiency ∷ [])) (a .1) in
+    let d = and-yes (eqb (c .allowance) 0) (blank (c .stress ∷ c .efficiency ∷ [])) (b .1) in
+    let e = and-yes (eqb (c .stress) 0) (blank (c .efficiency ∷ [])) (d .1) in
+    let v : c .width ≡ 0 = eqb-yes (a .0) in
+    let w : c .plate ≡ 0 = eqb-yes (b .0) in
+    let x : c .allowance ≡ 0 = eqb-yes (d .0) in
+    let y : c .stress ≡ 0 = eqb-yes (e .0) in
+    let z : c .efficiency ≡ 0 = eqb-yes (and-yes (eqb (c .efficiency) 0) true (e .1) .0) in
+    let r : _≡_ {A = Course} (record { width = c .width; plate = c .plate; allowance = c .allowance; stress = c .stress; efficiency = c .efficiency }) blankCourse
+    = cc in
+    r
+
+all-blank : (cs : List Course) → T (coursesBlank cs) → cs ≡ replicate (length cs) blankCourse
+unfolding coursesBlank
+all-blank [] h = refl
+all-blank (c ∷ cs) h =
+    let a = and-yes (blank (courseFigures c)) (coursesBlank cs) h in
+    let e = blank-course c (a .0) in
+    let f = all-blank cs (a .1) in
+    cc
+
+module _ (s : Sheet) (h : T (reachable s)) where
+  slots : Slots (s .courses) (s .count)
+  slots = reach-slots s h
+
+  pub held-length : length (held s) ≡ s .count
+  held-length = length-take-le (s .count) (s .courses) (omega (arith, slots .few, slots .twelve))
+
+  courses-padded : s .courses ≡ padded (held s)
+  courses-padded =
+      let n : length (drop (s .count) (s .courses)) ≡ 12 - length (held s)
+      = omega (arith, held-length, length-drop (s .count) (s .courses), slots .twelve, slots .few) in
+      sym (take-append-drop (s .count) (s .courses))
+      ∙ ap (λ (l : List Course). held s ++ l) (all-blank (drop (s .count) (s .courses)) (slots .rest) ∙ ap (λ (k : ℕ). replicate k blankCourse) n)
+
+  pub as-parts : s ≡ sheetOf (s .tank) (s .site) (s .anchors) (held s)
+  as-parts =
+      ap (λ (l : List Course). record { tank = s .tank; site = s .site; anchors = s .anchors; courses = l; count = s .count }) courses-padded
+      ∙ ap (λ (n : ℕ). record { tank = s .tank; site = s .site; anchors = s .anchors; courses = padded (held s); count = n }) (sym held-length)
+
+-- ---- it is rebuilt from the empty sheet
+
+-- steps in turn, all of them accepted
+in-turn-next : (s t : Sheet) (x : Step) (xs : List Step) (r : Reply) → taken s x ≡ accepted t → inTurn t xs ≡ r → inTurn s (x ∷ xs) ≡ r
+in-turn-next s t x xs r e f = ap (λ (y : Reply). unless (y .answer) (inTurn (y .sheet) xs)) e ∙ f
+
+pad-next : (h : List Course) (c : Course) → length h < 12 → set (padded h) (length h) c ≡ padded (h ++ c ∷ [])
+pad-next h c l =
+    let m = 12 - suc (length h) in
+    let e : 12 - length h ≡ suc m = omega arith in
+    let f : 12 - length (h ++ c ∷ []) ≡ m = omega (arith, length-append h (c ∷ [])) in
+    ap (λ (k : ℕ). set (h ++ replicate k blankCourse) (length h) c) e
+    ∙ set-append-seam h blankCourse (replicate m blankCourse) c
+    ∙ sym (append-snoc h c (replicate m blankCourse))
+    ∙ ap (λ (k : ℕ). (h ++ c ∷ []) ++ replicate k blankCourse) (sym f)
+
+module _ (t : Tank) (x : SiteEntry.SiteEntry) (a : Anchors) where
+  abbrev with : List Course → Sheet
+  with h = sheetOf (TankEntry.the-variants.Filled t) x a h
+
+  course-added : (h : List Course) (c : Course) → length h < 12 → T (clear (courseFlaws c)) → heightOf h + c .width ≤ 76800
+      → taken (with h) (addCourse c) ≡ accepted (with (h ++ c ∷ []))
+  course-added h c l k m =
+      let n : length h + 1 ≡ length (h ++ c ∷ []) = omega (arith, length-append h (c ∷ [])) in
+      course-taken (with h) t refl c l
+      ∙ rw (clear-accepted (courseFlaws c) k, take-append-seam h (replicate (12 - length h) blankCourse), le-ltb _ _ m)
+      (ap (λ (l : List Course). accepted (record { tank = TankEntry.the-variants.Filled t; site = x; anchors = a; courses = l; count = length h + 1 })) (pad-next h c l)
+      ∙ ap (λ (n : ℕ). accepted (record { tank = TankEntry.the-variants.Filled t; site = x; anchors = a; courses = padded (h ++ c ∷ []); count = n })) n)
+
+  courses-added : (rest h : List Course) → length h + length rest ≤ 12 → T (coursesClear rest) → heightOf h + heightOf rest ≤ 76800
+      → inTurn (with h) (map addCourse rest) ≡ accepted (with (h ++ rest))
+  unfolding coursesClear
+  courses-added [] h l k m = ap (λ (r : List Course). accepted (with r)) (sym (append-nil h))
+  courses-added (c ∷ rest) h l k m =
+      let d = and-yes (clear (courseFlaws c)) (coursesClear rest) k in
+      in-turn-next (with h) (with (h ++ c ∷ [])) (addCourse c) (map addCourse rest) (accepted (with (h ++ c ∷ rest)))
+      (course-added h c (omega arith) (d .0) (omega arith))
+      (courses-added rest (h ++ c ∷ []) (omega (arith, length-append h (c ∷ []))) (d .1) (omega (arith, height-append h (c ∷ [])))
+      ∙ ap (λ (r : List Course). accepted (with r)) (append-snoc h c rest))
+
+-- what a sheet holds, stated in document 01's order; a site that is blank is not stated
+abbrev pub siteSteps : SiteEntry.SiteEntry → List Step
+siteSteps SiteEntry.the-variants.Blank = []
+siteSteps (SiteEntry.the-variants.Filled x) = stateSite x ∷ []
+
+abbrev pub stepsOf : Tank → SiteEntry.SiteEntry → Anchors → List Course → List Step
+stepsOf t x a cs = stateTank t ∷ (siteSteps x ++ stateAnchors a ∷ map addCourse cs)
+
+module _ (t : Tank) where
+  abbrev bare : SiteEntry.SiteEntry → Anchors → Sheet
+  bare x a = sheetOf (TankEntry.the-variants.Filled t) x a []
+
+  tank-first : T (clear (tankFlaws t)) → taken emptySheet (stateTank t) ≡ accepted (bare SiteEntry.the-variants.Blank noAnchors)
+  tank-first k = tank-taken emptySheet refl t ∙ rw (clear-accepted (tankFlaws t) k)
+
+  site-next : (x : Site) → T (clear (siteFlaws x))
+      → taken (bare SiteEntry.the-variants.Blank noAnchors) (stateSite x) ≡ accepted (bare (SiteEntry.the-variants.Filled x) noAnchors)
+  site-next x k = site-taken (bare SiteEntry.the-variants.Blank noAnchors) t refl x ∙ rw (clear-accepted (siteFlaws x) k)
+
+  anchors-next : (x : SiteEntry.SiteEntry) (a : Anchors) → T (clear (anchorFlaws (t .diameter) a))
+      → taken (bare x noAnchors) (stateAnchors a) ≡ accepted (bare x a)
+  anchors-next x a k = anchors-taken (bare x noAnchors) t refl a ∙ rw (clear-accepted (anchorFlaws (t .diameter) a) k)
+
+  sites-next : (x : SiteEntry.SiteEntry) (xs : List Step) (r : Reply) → T (siteClear x) → inTurn (bare x noAnchors) xs ≡ r
+      → inTurn (bare SiteEntry.the-variants.Blank noAnchors) (siteSteps x ++ xs) ≡ r
+  sites-next SiteEntry.the-variants.Blank xs r k e = e
+  sites-next (SiteEntry.the-variants.Filled x) xs r k e =
+      in-turn-next (bare SiteEntry.the-variants.Blank noAnchors) (bare (SiteEntry.the-variants.Filled x) noAnchors) (stateSite x) xs r (site-next x k) e
+
+  all-stated : (x : SiteEntry.SiteEntry) (a : Anchors) (cs : List Course)
+      → T (clear (tankFlaws t)) → T (siteClear x) → T (clear (anchorFlaws (t .diameter) a))
+      → length cs ≤ 12 → T (coursesClear cs) → heightOf cs ≤ 76800
+      → inTurn emptySheet (stepsOf t x a cs) ≡ accepted (sheetOf (TankEntry.the-variants.Filled t) x a cs)
+  all-stated x a cs kt kx ka l kc m =
+      let whole = accepted (sheetOf (TankEntry.the-variants.Filled t) x a cs) in
+      in-turn-next emptySheet (bare SiteEntry.the-variants.Blank noAnchors) (stateTank t) (siteSteps x ++ stateAnchors a ∷ map addCourse cs) whole (tank-first kt)
+      (sites-next x (stateAnchors a ∷ map addCourse cs) whole kx
+      (in-turn-next (bare x noAnchors) (bare x a) (stateAnchors a) (map addCourse cs) whole (anchors-next x a ka)
+      (courses-added t x a cs [] (omega arith) kc (omega arith))))
+
+-- A SHEET THAT PASSES THE TEST IS WHAT ITS OWN STEPS LEAVE
+pub rebuilt : (s : Sheet) → T (reachable s) → (d : Held (s .tank))
+    → inTurn emptySheet (stepsOf (d .tank) (s .site) (s .anchors) (held s)) ≡ accepted s
+rebuilt s h d =
+    let p = parts-held s h d in
+    let l = reach-slots s h in
+    all-stated (d .tank) (s .site) (s .anchors) (held s) (p .0) (p .1) (p .2) (omega (arith, held-length s h, l .few)) (l .clear) (l .low)
+    ∙ ap (λ (e : TankEntry.TankEntry). accepted (sheetOf e (s .site) (s .anchors) (held s))) (sym (d .is))
+    ∙ ap accepted (sym (as-parts s h))
+
+-- ---- and so by a run
+
+pub refused-accepted : (r : Refusal) (s t : Sheet) → refused r s ≡ accepted t → ⊥
+refused-accepted r s t e = let q : Refused r ≡ Accepted = ap (λ (y : Reply). y .answer) e in let z : _≡_ {A = ℕ} 0 1 = cc in omega arith
+
+pub in-turn-run : (xs : List Step) (s t : Sheet) → inTurn s xs ≡ accepted t → run s xs ≡ t
+in-turn-run [] s t e = ap (λ (r : Reply). r .sheet) e
+in-turn-run (x ∷ xs) s t e = go (taken s x .answer) (in-turn-run xs (taken s x .sheet) t) e
+  where
+    go : (a : Answer) → (inTurn (taken s x .sheet) xs ≡ accepted t → run (taken s x .sheet) xs ≡ t)
+        → unless a (inTurn (taken s x .sheet) xs) ≡ accepted t → run (taken s x .sheet) xs ≡ t
+    go Accepted f e = f e
+    go (Refused r) f e = absurd (refused-accepted r emptySheet t e)
+
+no-tank-empty : (s : Sheet) → T (reachable s) → s .tank ≡ TankEntry.the-variants.Blank → s ≡ emptySheet
+no-tank-empty s h e =
+    let b = three-yes (siteBlank (s .site)) (blank (anchorFigures (s .anchors))) (eqb (s .count) 0)
+    (subst (λ (e : TankEntry.TankEntry). T (partsReachable e (s .site) (s .anchors) (s .count))) e (reach-halves s h .1)) in
+    let n : s .count ≡ 0 = eqb-yes (b .2) in
+    let x : s .site ≡ SiteEntry.the-variants.Blank = site-blank (s .site) (b .0) in
+    let a : s .anchors ≡ noAnchors = anchors-blank (s .anchors) (b .1) in
+    let c : held s ≡ [] = ap (λ (k : ℕ). take k (s .courses)) n in
+    as-parts s h
+    ∙ ap (λ (e : TankEntry.TankEntry). sheetOf e (s .site) (s .anchors) (held s)) e
+    ∙ ap (λ (x : SiteEntry.SiteEntry). sheetOf TankEntry.the-variants.Blank x (s .anchors) (held s)) x
+    ∙ ap (λ (a : Anchors). sheetOf TankEntry.the-variants.Blank SiteEntry.the-variants.Blank a (held s)) a
+    ∙ ap (λ (l : List Course). sheetOf TankEntry.the-variants.Blank SiteEntry.the-variants.Blank noAnchors l) c
+  where
+    site-blank : (x : SiteEntry.SiteEntry) → T (siteBlank x) → x ≡ SiteEntry.the-variants.Blank
+    site-blank SiteEntry.the-variants.Blank t = refl
+    site-blank (SiteEntry.the-variants.Filled x) t = absurd t
+
+    anchors-blank : (a : Anchors) → T (blank (anchorFigures a)) → a ≡ noAnchors
+    anchors-blank a h =
+        let b = and-yes (eqb (a .number) 0) (blank (a .circle ∷ a .size ∷ [])) h in
+        let c = and-yes (eqb (a .circle) 0) (blank (a .size ∷ [])) (b .1) in
+        let x : a .number ≡ 0 = eqb-yes (b .0) in
+        let y : a .circle ≡ 0 = eqb-yes (c .0) in
+        let z : a .size ≡ 0 = eqb-yes (and-yes (eqb (a .size) 0) true (c .1) .0) in
+        let r : _≡_ {A = Anchors} (record { number = a .number; circle = a .circle; size = a .size }) noAnchors = cc in
+        r
+
+reachable-left : (s : Sheet) (e : TankEntry.TankEntry) → s .tank ≡ e → T (reachable s) → LeftByRun s
+reachable-left s TankEntry.the-variants.Blank e h = record { steps = []; leaves = sym (no-tank-empty s h e) }
+reachable-left s (TankEntry.the-variants.Filled t) e h =
+    let xs = stepsOf t (s .site) (s .anchors) (held s) in
+    record { steps = xs; leaves = in-turn-run xs emptySheet s (rebuilt s h (record { tank = t; is = e })) }
+
+-- REFUSAL 30 IS FOR EXACTLY THE SHEETS THAT NO RUN OF STEPS LEAVES
+pub left-exactly : (s : Sheet) → T (reachable s) ↔ LeftByRun s
+left-exactly s =
+    (reachable-left s (s .tank) refl, λ l. subst (λ (t : Sheet). T (reachable t)) (l .leaves) (run-reachable (l .steps) emptySheet empty-reachable))
+
+pub left-told : (s : Sheet) {b : Bool} → b ≡ reachable s → (b ≡ reachable s) × (T b ↔ LeftByRun s)
+left-told s {b} e = (e, subst (λ (z : Bool). T z ↔ LeftByRun s) (sym e) (left-exactly s))

@@ -1,0 +1,89 @@
+-- `sheet::steps::take_course` meets its contract. Assumes nothing.
+use mathlib.Core.Path.{_∙_, sym, ap}
+use Prim.Native.Nat.{_+_}
+use lib.Dec.{ltb}
+use borrow.Author.Needs.{needs}
+use Rattle.fields.specs.declared.refusal.Refusal.the-variants.{ShellTooHigh}
+use Rattle.sheet.specs.Sheet.{courseFlaws}
+use Rattle.sheet.specs.Order.{firstOf, _when_, orElse}
+use Rattle.sheet.specs.Steps.{addCourse, filled, replied}
+use Rattle.sheet.proofs.StepLaws.{course-taken, course-early, course-full}
+use Rattle.sheet.proofs.steps.take_course.Statement.{statement}
+use Rattle.sheet.proofs.steps.take_course.Tie as tie
+
+enum-told : tie.Need-enum-told
+enum-told c = search needs
+
+enum-told-2 : tie.Need-enum-told-2
+enum-told-2 c = search needs
+
+refuse-requires : tie.Need-refuse-requires
+refuse-requires c κs = search needs
+
+returns : tie.Need-returns
+returns c = let s = c .before .before .before .args in
+    c .refuse .ensures ∙ sym (course-early (s .s) (c .before .enum-told2 .given .1) (s .c))
+
+refuse-requires-2 : tie.Need-refuse-requires-2
+refuse-requires-2 c κs = search needs
+
+returns-2 : tie.Need-returns-2
+returns-2 c = let s = c .before .before .before .before .args in
+    let t = c .before .before .enum-told .given in
+    c .refuse2 .ensures ∙ sym (course-full (s .s) (t .0 .0) (t .1) (s .c) (c .before .if1 .taken))
+
+cast-too-high : tie.Need-cast-too-high
+cast-too-high c = search needs
+
+add-too-high : tie.Need-add-too-high
+add-too-high c = search needs
+
+course-flaw-requires : tie.Need-course-flaw-requires
+course-flaw-requires c κs = search needs
+
+or-else-requires : tie.Need-or-else-requires
+or-else-requires c κs = search needs
+
+mul-courses : tie.Need-mul-courses
+mul-courses c = search needs
+
+array-set-from-courses : tie.Need-array-set-from-courses
+array-set-from-courses c = search needs
+
+add-t19 : tie.Need-add-t19
+add-t19 c = search needs
+
+reply-requires : tie.Need-reply-requires
+reply-requires c κs = search needs
+
+returns-3 : tie.Need-returns-3
+returns-3 c = let f = c .before .before .before .before in
+    let s = f .before .before .before .before .before in
+    let t = f .before .before .before .enum-told .given in
+    let x = s .args .c in
+    c .reply .ensures
+    ∙ ap (λ a. replied a (s .args .s) (filled (s .args .s) (addCourse x)))
+    (c .before .before .before .or-else .ensures
+    ∙ ap (λ a. orElse a (ShellTooHigh when ltb 76800 (s .args .height + x .width))) (f .course-flaw .ensures)
+    ∙ ap (λ h. orElse (firstOf (courseFlaws x)) (ShellTooHigh when ltb 76800 (h + x .width))) (s .pre .0))
+    ∙ sym (course-taken (s .args .s) (t .0 .0) (t .1) x (f .before .before .if1 .left))
+
+pub take-course-spec : {M : Type 1} → statement M
+take-course-spec =
+    tie.close
+    (tie.spec
+    enum-told
+    enum-told-2
+    refuse-requires
+    returns
+    refuse-requires-2
+    returns-2
+    cast-too-high
+    add-too-high
+    course-flaw-requires
+    or-else-requires
+    mul-courses
+    array-set-from-courses
+    add-t19
+    reply-requires
+    returns-3)

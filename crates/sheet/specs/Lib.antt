@@ -1,0 +1,4 @@
+pub mod Order
+pub mod Sheet
+pub mod Steps
+pub mod Bytes

@@ -1,0 +1,186 @@
+// The steps that fill a sheet in (document 01, "Filling in" and "Order"). A refused step gives back
+// the sheet that was handed in.
+ghost use mathlib.Core.Path.{_≡_};
+ghost use mathlib.Core.List.{_∷_};
+ghost use Prim.Native.Nat.{_≤_};
+ghost use Rattle.sheet.specs.Order.{answerPaper, firstPaper};
+ghost use Rattle.sheet.specs.Sheet.{held, heightOf};
+ghost use Rattle.sheet.specs.Steps.{Step, orderOf, replied, refused, taken, unreachable, stated};
+use crate::entries::Anchors;
+use crate::entries::Answer;
+use crate::entries::Course;
+use crate::entries::Reply;
+use crate::entries::Sheet;
+use crate::entries::Site;
+use crate::entries::SiteEntry;
+use crate::entries::Tank;
+use crate::entries::TankEntry;
+use crate::flaws;
+use crate::reach;
+use fields::Refusal;
+
+// Fields 1 to 6, once. Refused: 30, 31, 16, 17.
+pub fn state_tank(s: Sheet, t: Tank) -> Reply
+    ensures { λ r. ⌜ r ≡ stated s (Step.stateTank t) ⌝ }
+    ensures { λ r. ⌜ answerPaper (r .answer) ≡ firstPaper (unreachable s ∷ orderOf s (Step.stateTank t)) ⌝ }
+{
+    if !reach::is_reachable(s) {
+        return refuse(s, Refusal::Unreachable);
+    }
+    take_tank(s, t)
+}
+
+// Fields 7 to 11; the later ones count. Refused: 30, 32, 16.
+pub fn state_site(s: Sheet, x: Site) -> Reply
+    ensures { λ r. ⌜ r ≡ stated s (Step.stateSite x) ⌝ }
+    ensures { λ r. ⌜ answerPaper (r .answer) ≡ firstPaper (unreachable s ∷ orderOf s (Step.stateSite x)) ⌝ }
+{
+    if !reach::is_reachable(s) {
+        return refuse(s, Refusal::Unreachable);
+    }
+    take_site(s, x)
+}
+
+// Fields 12 to 14; the later ones count. Refused: 30, 32, 16, 18.
+pub fn state_anchors(s: Sheet, a: Anchors) -> Reply
+    ensures { λ r. ⌜ r ≡ stated s (Step.stateAnchors a) ⌝ }
+    ensures { λ r. ⌜ answerPaper (r .answer) ≡ firstPaper (unreachable s ∷ orderOf s (Step.stateAnchors a)) ⌝ }
+{
+    if !reach::is_reachable(s) {
+        return refuse(s, Refusal::Unreachable);
+    }
+    take_anchors(s, a)
+}
+
+// Fields 15 to 19, of the next course up. Refused: 30, 32, 33, 16, 17, 34.
+pub fn add_course(s: Sheet, c: Course) -> Reply
+    ensures { λ r. ⌜ r ≡ stated s (Step.addCourse c) ⌝ }
+    ensures { λ r. ⌜ answerPaper (r .answer) ≡ firstPaper (unreachable s ∷ orderOf s (Step.addCourse c)) ⌝ }
+{
+    if !reach::is_reachable(s) {
+        return refuse(s, Refusal::Unreachable);
+    }
+    let courses = s.courses;
+    let height = reach::height(courses, s.count);
+    take_course(s, height, c)
+}
+
+// The sheet after a step with this answer.
+fn reply(answer: Answer, before: Sheet, after: Sheet) -> Reply
+    ensures { λ r. ⌜ r ≡ replied answer before after ⌝ }
+{
+    let Answer::Accepted = answer else {
+        return Reply {
+            answer,
+            sheet: before,
+        };
+    };
+    Reply {
+        answer,
+        sheet: after,
+    }
+}
+
+fn refuse(s: Sheet, refusal: Refusal) -> Reply
+    ensures { λ r. ⌜ r ≡ refused refusal s ⌝ }
+{
+    Reply {
+        answer: Answer::Refused(refusal),
+        sheet: s,
+    }
+}
+
+// The steps without their test for 30: what reading goes through.
+pub(crate) fn take_tank(s: Sheet, t: Tank) -> Reply
+    ensures { λ r. ⌜ r ≡ taken s (Step.stateTank t) ⌝ }
+{
+    let entry = s.tank;
+    let TankEntry::Blank = entry else {
+        return refuse(s, Refusal::TankStated);
+    };
+    let flaw = flaws::tank_flaw(t);
+    let site = s.site;
+    let anchors = s.anchors;
+    let courses = s.courses;
+    let tank = TankEntry::Filled(t);
+    let after = Sheet {
+        tank,
+        site,
+        anchors,
+        courses,
+        count: s.count,
+    };
+    reply(flaw, s, after)
+}
+
+pub(crate) fn take_site(s: Sheet, x: Site) -> Reply
+    ensures { λ r. ⌜ r ≡ taken s (Step.stateSite x) ⌝ }
+{
+    let tank = s.tank;
+    let TankEntry::Filled(_) = tank else {
+        return refuse(s, Refusal::NoTank);
+    };
+    let flaw = flaws::site_flaw(x);
+    let anchors = s.anchors;
+    let courses = s.courses;
+    let site = SiteEntry::Filled(x);
+    let after = Sheet {
+        tank,
+        site,
+        anchors,
+        courses,
+        count: s.count,
+    };
+    reply(flaw, s, after)
+}
+
+pub(crate) fn take_anchors(s: Sheet, a: Anchors) -> Reply
+    ensures { λ r. ⌜ r ≡ taken s (Step.stateAnchors a) ⌝ }
+{
+    let entry = s.tank;
+    let TankEntry::Filled(t) = entry else {
+        return refuse(s, Refusal::NoTank);
+    };
+    let flaw = flaws::anchors_flaw(t.diameter, a);
+    let tank = s.tank;
+    let site = s.site;
+    let courses = s.courses;
+    let after = Sheet {
+        tank,
+        site,
+        anchors: a,
+        courses,
+        count: s.count,
+    };
+    reply(flaw, s, after)
+}
+
+// The caller hands in the height of the courses held, so that reading need not add it up again at
+// every course.
+pub(crate) fn take_course(s: Sheet, height: u64, c: Course) -> Reply
+    requires { ⌜ (height ≡ heightOf (held s)) × (height ≤ 76800) ⌝ }
+    ensures { λ r. ⌜ r ≡ taken s (Step.addCourse c) ⌝ }
+{
+    let tank = s.tank;
+    let TankEntry::Filled(_) = tank else {
+        return refuse(s, Refusal::NoTank);
+    };
+    let n = s.count;
+    if reach::MOST_COURSES <= n {
+        return refuse(s, Refusal::CoursesFull);
+    }
+    let too_high = reach::MOST_HEIGHT < height + c.width as u64;
+    let flaw = flaws::or_else(flaws::course_flaw(c), Refusal::ShellTooHigh, too_high);
+    let site = s.site;
+    let anchors = s.anchors;
+    let mut courses = s.courses;
+    courses[n] = c;
+    let after = Sheet {
+        tank,
+        site,
+        anchors,
+        courses,
+        count: n + 1,
+    };
+    reply(flaw, s, after)
+}

@@ -1,0 +1,169 @@
+"""The records of a script, and the lines that the program under test writes for them.
+
+The program holds one current sheet. A record is an opcode byte, two bytes for the length of
+the payload, and the payload; its figures have four bytes each. All numbers are big-endian.
+Each record has one line: the answer's word, and then the sheet or the lent buffer after it.
+"""
+
+import struct
+from typing import NamedTuple
+
+import document as doc
+import sheet as model
+
+MOST_BUFFER = 512
+MOST_READ = 700
+
+# --- Records ------------------------------------------------------------------
+
+NEW, TANK, SITE, ANCHORS, COURSE, WRITE, READ, FORGE = range(8)
+OPENING = (NEW, READ, FORGE)    # these set the current sheet
+STEPS = {TANK: model.TANK, SITE: model.SITE, ANCHORS: model.ANCHORS, COURSE: model.COURSE}
+
+
+class Record(NamedTuple):
+    opcode: int
+    payload: bytes
+
+
+def figures_record(opcode, figures):
+    return Record(opcode, model.figures_as_bytes(figures))
+
+
+def new():
+    return Record(NEW, b"")
+
+
+def tank(figures):
+    return figures_record(TANK, figures)
+
+
+def site(figures):
+    return figures_record(SITE, figures)
+
+
+def anchors(figures):
+    return figures_record(ANCHORS, figures)
+
+
+def course(figures):
+    return figures_record(COURSE, figures)
+
+
+def write(size, fill):
+    assert 0 <= size <= MOST_BUFFER and 0 <= fill < 256
+    return figures_record(WRITE, (size, fill))
+
+
+def read(content):
+    assert len(content) <= MOST_READ
+    return Record(READ, bytes(content))
+
+
+def stated(part, fields):
+    """1 and the figures, or as many zeros if the part is not stated."""
+    return (0,) * (1 + len(fields)) if part is None else (1, *part)
+
+
+def forge(sheet):
+    figures = [*stated(sheet.tank, doc.TANK_FIELDS), *stated(sheet.site, doc.SITE_FIELDS)]
+    figures += (*sheet.anchors, sheet.count)
+    for slot in sheet.courses:
+        figures += slot
+    assert len(figures) == 77
+    return figures_record(FORGE, figures)
+
+
+def forged(figures):
+    """The sheet of a forge record's figures."""
+    tank_stated, *tank_figures = figures[:7]
+    site_stated, *site_figures = figures[7:13]
+    slots = tuple(figures[start:start + 5] for start in range(17, 77, 5))
+    return model.Sheet(tuple(tank_figures) if tank_stated else None,
+                       tuple(site_figures) if site_stated else None,
+                       figures[13:16], slots, figures[16])
+
+
+def as_bytes(records):
+    heads = (struct.pack(">BH", record.opcode, len(record.payload)) for record in records)
+    return b"".join(head + record.payload for head, record in zip(heads, records))
+
+
+def record_number(records, offset):
+    """The number, from 1, of the record that has the byte at this offset."""
+    end = 0
+    for number, record in enumerate(records, start=1):
+        end += 3 + len(record.payload)
+        if offset < end:
+            return number
+    return len(records) + 1
+
+
+# --- Lines --------------------------------------------------------------------
+
+
+def refusal_word(number, field=0):
+    return f"refused {number} {field}" if number == doc.FIELD_REFUSAL else f"refused {number}"
+
+
+def answer_word(refusal, accepted):
+    return accepted if refusal is None else refusal_word(*refusal)
+
+
+def part_text(name, figures):
+    """Each word with a blank before it."""
+    words = ["-"] if figures is None else map(str, figures)
+    return "".join(f" {word}" for word in (name, *words))
+
+
+def slot_text(slot):
+    return " -" if slot == model.NO_COURSE else part_text("course", slot)
+
+
+def sheet_text(sheet):
+    return part_text("tank", sheet.tank) + part_text("site", sheet.site) \
+        + part_text("anchors", sheet.anchors) + part_text("count", (sheet.count,)) \
+        + "".join(map(slot_text, sheet.courses))
+
+
+class Outcome(NamedTuple):
+    word: str               # the answer, without the sheet or the buffer
+    text: str               # the rest of the line
+    sheet: model.Sheet      # the current one after the record
+
+
+def lent_buffer(size, fill):
+    return bytes((fill + i) % 256 for i in range(size))
+
+
+def write_outcome(sheet, size, fill):
+    refusal, number, buffer = model.write(sheet, lent_buffer(size, fill))
+    return Outcome(answer_word(refusal, f"wrote {number}"), f" buffer {buffer.hex()}", sheet)
+
+
+def sheet_outcome(word, sheet):
+    return Outcome(word, sheet_text(sheet), sheet)
+
+
+def outcome(sheet, record):
+    opcode, payload = record
+    if opcode == NEW:
+        return sheet_outcome("held", model.EMPTY)
+    if opcode == READ:
+        refusal, sheet = model.read(payload)
+        return sheet_outcome(answer_word(refusal, "ok"), sheet)
+    figures = model.bytes_as_figures(payload)
+    if opcode == FORGE:
+        return sheet_outcome("held", forged(figures))
+    if opcode == WRITE:
+        return write_outcome(sheet, *figures)
+    refusal, sheet = model.take_step(sheet, STEPS[opcode], figures)
+    return sheet_outcome(answer_word(refusal, "ok"), sheet)
+
+
+def outcomes(records):
+    sheet = None    # the first record sets it
+    for record in records:
+        result = outcome(sheet, record)
+        sheet = result.sheet
+        yield result
