@@ -28,7 +28,7 @@ use Rattle.sheet.specs.declared.entries.Reply.{Reply}
 use Rattle.sheet.specs.declared.entries.Written as Written
 use Rattle.sheet.specs.declared.entries.Answer.{Answer}
 use Rattle.sheet.specs.declared.entries.Answer.the-variants.{Accepted, Refused}
-use Rattle.sheet.proofs.OrderLaws.{first-exactly}
+use Rattle.sheet.proofs.OrderLaws.{clash, first-exactly}
 use Rattle.sheet.proofs.StepLaws.{stated-taken}
 use Rattle.sheet.proofs.ReachLaws.{T-true, reply-reachable, empty-reachable}
 use Rattle.sheet.proofs.RebuildLaws.{left-exactly}
@@ -109,7 +109,7 @@ stated-exactly s x r = first-exactly (unreachable s ∷ orderOf s x) r
 
 written-as : (a : Answer) (n : ℕ) (r : Refusal) → (writtenAs a n ≡ Written.the-variants.Refused r) ↔ (a ≡ Refused r)
 written-as Accepted n r =
-    ((λ e. absurd (let z : _≡_ {A = ℕ} 0 1 = cc in omega arith)), λ e. absurd (let z : _≡_ {A = ℕ} 0 1 = cc in omega arith))
+    ((λ e. absurd (let z : _≡_ {A = ℕ} 0 1 = cc in omega arith)), λ e. clash (sym e))
 written-as (Refused q) n r = ((λ e. let k : q ≡ r = cc in ap Refused k), λ e. let k : q ≡ r = cc in ap Written.the-variants.Refused k)
 
 pub written-exactly : (s : Sheet) (buf : List ℕ) (r : Refusal)
@@ -133,13 +133,13 @@ read-exactly b r = go (firstOf (readOrder b)) refl
       where
         back : First (readOrder b) r ⊎ ((firstOf (readOrder b) ≡ Accepted) × (inTurn emptySheet (stepsIn b) .answer ≡ Refused r))
             → inTurn emptySheet (stepsIn b) .answer ≡ Refused r
-        back (inl f) = absurd (let k = first-exactly (readOrder b) r .1 f in let z : _≡_ {A = ℕ} 0 1 = cc in omega arith)
+        back (inl f) = clash (sym (first-exactly (readOrder b) r .1 f) ∙ e)
         back (inr f) = f .1
     go (Refused q) e = ((λ f. inl (first-exactly (readOrder b) r .0 (e ∙ f))), back)
       where
         back : First (readOrder b) r ⊎ ((firstOf (readOrder b) ≡ Accepted) × (inTurn emptySheet (stepsIn b) .answer ≡ Refused r)) → Refused q ≡ Refused r
         back (inl f) = sym e ∙ first-exactly (readOrder b) r .1 f
-        back (inr f) = absurd (let k = f .0 in let z : _≡_ {A = ℕ} 0 1 = cc in omega arith)
+        back (inr f) = clash (sym e ∙ f .0)
 
 -- ---- REFUSAL 30: exactly where no run of steps leaves the sheet that is handed in
 
@@ -147,7 +147,7 @@ abbrev other : Condition → Bool
 other c = not (eqb (paperOf (c .refusal) .number) 30)
 
 never-thirty : (cs : List Condition) → T (each other cs) → firstOf cs ≡ Refused Unreachable → ⊥
-never-thirty [] h e = let z : _≡_ {A = ℕ} 0 1 = cc in omega arith
+never-thirty [] h e = clash (sym e)
 never-thirty (c ∷ cs) h e = go (c .holds) (and-yes (other c) (each other cs) h) (never-thirty cs) e
   where
     go : (b : Bool) → T (other c) × T (each other cs) → (T (each other cs) → firstOf cs ≡ Refused Unreachable → ⊥)

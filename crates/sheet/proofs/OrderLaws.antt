@@ -18,9 +18,13 @@ use Rattle.sheet.specs.Order.{Condition, firstOf, orElse, at, First, acc
 use Rattle.sheet.specs.declared.entries.Answer.{Answer}
 use Rattle.sheet.specs.declared.entries.Answer.the-variants.{Accepted, Refused}
 
+-- an answer is not both
+pub clash : {X : Type 0} {r : Refusal} → Refused r ≡ Accepted → X
+clash e = absurd (let z : _≡_ {A = ℕ} 0 1 = cc in omega arith)
+
 -- THE LAW OF EVERY ORDER: the answer is the refusal r exactly where r's condition holds at some place and none before it does.
 to-first : (cs : List Condition) (r : Refusal) → firstOf cs ≡ Refused r → First cs r
-to-first [] r e = absurd (let z : _≡_ {A = ℕ} 0 1 = cc in omega arith)
+to-first [] r e = clash (sym e)
 to-first (c ∷ cs) r e = go (to-first cs r) (c .holds) refl e
   where
     later : First cs r → c .holds ≡ false → First (c ∷ cs) r
@@ -76,28 +80,10 @@ none-exactly (c ∷ cs) = (
     there : (firstOf cs ≡ Accepted → (j : ℕ) → j < length cs → at cs j .holds ≡ false)
         → (b : Bool) → c .holds ≡ b → cond b (Refused (c .refusal)) (firstOf cs) ≡ Accepted
         → (j : ℕ) → j < suc (length cs) → at (c ∷ cs) j .holds ≡ false
-    there rest true h e = absurd (let z : _≡_ {A = ℕ} 0 1 = cc in omega arith)
+    there rest true h e = clash e
     there rest false h e = step h (rest e)
 
 -- an order part by part
-pub first-past : (xs ys : List Condition) → firstOf xs ≡ Accepted → firstOf (xs ++ ys) ≡ firstOf ys
-first-past [] ys e = refl
-first-past (x ∷ xs) ys e = go (first-past xs ys) (x .holds) e
-  where
-    go : (firstOf xs ≡ Accepted → firstOf (xs ++ ys) ≡ firstOf ys) → (b : Bool) → cond b (Refused (x .refusal)) (firstOf xs) ≡ Accepted
-        → cond b (Refused (x .refusal)) (firstOf (xs ++ ys)) ≡ firstOf ys
-    go rest true e = absurd (let z : _≡_ {A = ℕ} 0 1 = cc in omega arith)
-    go rest false e = rest e
-
-pub first-here : (xs ys : List Condition) (r : Refusal) → firstOf xs ≡ Refused r → firstOf (xs ++ ys) ≡ Refused r
-first-here [] ys r e = absurd (let z : _≡_ {A = ℕ} 0 1 = cc in omega arith)
-first-here (x ∷ xs) ys r e = go (first-here xs ys r) (x .holds) e
-  where
-    go : (firstOf xs ≡ Refused r → firstOf (xs ++ ys) ≡ Refused r) → (b : Bool) → cond b (Refused (x .refusal)) (firstOf xs) ≡ Refused r
-        → cond b (Refused (x .refusal)) (firstOf (xs ++ ys)) ≡ Refused r
-    go rest true e = e
-    go rest false e = rest e
-
 pub first-or-else : (xs : List Condition) (c : Condition) → firstOf (xs ++ c ∷ []) ≡ orElse (firstOf xs) c
 first-or-else [] c = refl
 first-or-else (x ∷ xs) c = go (first-or-else xs c) (x .holds)
@@ -111,7 +97,7 @@ pub first-cons : (c : Condition) (cs : List Condition) → firstOf (c ∷ cs) �
 first-cons c cs e = go (c .holds) e
   where
     go : (b : Bool) → cond b (Refused (c .refusal)) (firstOf cs) ≡ Accepted → (b ≡ false) × (firstOf cs ≡ Accepted)
-    go true e = absurd (let z : _≡_ {A = ℕ} 0 1 = cc in omega arith)
+    go true e = clash e
     go false e = (refl, e)
 
 pub first-append : (xs ys : List Condition) → firstOf (xs ++ ys) ≡ Accepted → (firstOf xs ≡ Accepted) × (firstOf ys ≡ Accepted)
@@ -121,7 +107,7 @@ first-append (x ∷ xs) ys e = go (first-append xs ys) (x .holds) e
     go : (firstOf (xs ++ ys) ≡ Accepted → (firstOf xs ≡ Accepted) × (firstOf ys ≡ Accepted)) → (b : Bool)
         → cond b (Refused (x .refusal)) (firstOf (xs ++ ys)) ≡ Accepted
         → (cond b (Refused (x .refusal)) (firstOf xs) ≡ Accepted) × (firstOf ys ≡ Accepted)
-    go rest true e = absurd (let z : _≡_ {A = ℕ} 0 1 = cc in omega arith)
+    go rest true e = clash e
     go rest false e = rest e
 
 -- the test `clear`, and the answer

@@ -7,15 +7,15 @@ use mathlib.Core.List.{List, [], _∷_, _++_}
 use Prim.Native.Nat.{ℕ, suc, _+_, _-_, _≤_, _<_}
 use native.Mathlib.Numerals.{add-one}
 use native.Mathlib.Omega.{arith}
-use lib.Dec.{T, leb, ltb, eqb}
+use lib.Dec.{T, leb, eqb}
 use lib.ListN.{length, getD, take, drop, set, length-set}
 use lib.Seq.{take-suc-set, drop-set-lt, drop-cons}
 use mir.Facts.{and-yes, yes-and, leb-yes, yes-leb, eqb-yes, yes-eqb}
 use borrow.Author.Tests.{leb-false, ltb-false}
 use Rattle.fields.specs.Range.{between, within}
-use Rattle.fields.specs.declared.refusal.Refusal.the-variants.{TankStated, NoTank, CoursesFull, ShellTooHigh}
+use Rattle.fields.specs.declared.refusal.Refusal.the-variants.{TankStated, NoTank, CoursesFull}
 use Rattle.sheet.specs.Order.{_when_, firstOf, clear}
-use Rattle.sheet.specs.Sheet.{anchorFigures, courseFigures, blankCourse, emptySheet, held, heightOf, badAnchors, tankFlaws, siteFlaws, anchorFlaws, courseFlaws}
+use Rattle.sheet.specs.Sheet.{tooHigh, noAnchors, anchorFigures, courseFigures, blankCourse, emptySheet, held, heightOf, badAnchors, tankFlaws, siteFlaws, anchorFlaws, courseFlaws}
 use Rattle.sheet.specs.Steps.{Step, stateTank, stateSite, stateAnchors, addCourse, tankBlank, diameterOf, orderOf, filled, replied, taken, run, blank, siteBlank, siteClear, coursesClear, coursesBlank, slotsReachable, partsReachable, reachable}
 use Rattle.sheet.specs.declared.entries.Tank.{Tank}
 use Rattle.sheet.specs.declared.entries.Anchors.{Anchors}
@@ -26,7 +26,7 @@ use Rattle.sheet.specs.declared.entries.Sheet.{Sheet}
 use Rattle.sheet.specs.declared.entries.Reply.{Reply}
 use Rattle.sheet.specs.declared.entries.Answer.{Answer}
 use Rattle.sheet.specs.declared.entries.Answer.the-variants.{Accepted, Refused}
-use Rattle.sheet.proofs.OrderLaws.{accepted-clear, first-cons, first-append}
+use Rattle.sheet.proofs.OrderLaws.{clash, accepted-clear, first-cons, first-append}
 use Rattle.sheet.proofs.EachLaws.{append-each}
 use Rattle.sheet.proofs.CourseLaws.{height-append}
 
@@ -87,17 +87,20 @@ module _ (s : Sheet) where
 
 -- ---- every step keeps it
 
+pub anchors-blank : (a : Anchors) → T (blank (anchorFigures a)) → a ≡ noAnchors
+anchors-blank a h =
+    let b = and-yes (eqb (a .number) 0) (blank (a .circle ∷ a .size ∷ [])) h in
+    let c = and-yes (eqb (a .circle) 0) (blank (a .size ∷ [])) (b .1) in
+    let x : a .number ≡ 0 = eqb-yes (b .0) in
+    let y : a .circle ≡ 0 = eqb-yes (c .0) in
+    let z : a .size ≡ 0 = eqb-yes (and-yes (eqb (a .size) 0) true (c .1) .0) in
+    let r : _≡_ {A = Anchors} (record { number = a .number; circle = a .circle; size = a .size }) noAnchors = cc in
+    r
+
 -- no anchors suit every tank, so that a tank may be stated over them
 none-clear : (D : ℕ) (a : Anchors) → T (blank (anchorFigures a)) → T (clear (anchorFlaws D a))
 unfolding clear anchorFlaws badAnchors within between
-none-clear D a h =
-    let b = and-yes (eqb (a .number) 0) (blank (a .circle ∷ a .size ∷ [])) h in
-    let c = and-yes (eqb (a .circle) 0) (blank (a .size ∷ [])) (b .1) in
-    let d = and-yes (eqb (a .size) 0) true (c .1) in
-    let x : a .number ≡ 0 = eqb-yes (b .0) in
-    let y : a .circle ≡ 0 = eqb-yes (c .0) in
-    let z : a .size ≡ 0 = eqb-yes (d .0) in
-    rw (x, y, z) tt
+none-clear D a h = subst (λ (z : Anchors). T (clear (anchorFlaws D z))) (sym (anchors-blank a h)) tt
 
 site-blank-clear : (x : SiteEntry.SiteEntry) → T (siteBlank x) → T (siteClear x)
 site-blank-clear SiteEntry.the-variants.Blank h = tt
@@ -167,7 +170,7 @@ module _ (s : Sheet) (h : T (reachable s)) where
       (held-parts d (s .site) a (s .count) (parts-held d .1)
       (accepted-clear (anchorFlaws (d .tank .diameter) a) (subst (λ (e : TankEntry.TankEntry). firstOf (anchorFlaws (diameterOf e) a) ≡ Accepted) (d .is) (o .1))))
   filled-reachable (addCourse c) e =
-      let high = ShellTooHigh when ltb 76800 (heightOf (held s) + c .width) in
+      let high = tooHigh (heightOf (held s)) c in
       let o = first-cons (NoTank when tankBlank (s .tank)) ((CoursesFull when leb 12 (s .count)) ∷ (courseFlaws c ++ high ∷ [])) e in
       let f = first-cons (CoursesFull when leb 12 (s .count)) (courseFlaws c ++ high ∷ []) (o .1) in
       let g = first-append (courseFlaws c) (high ∷ []) (f .1) in
@@ -192,12 +195,12 @@ taken-accepted s x e = go (firstOf (orderOf s x)) e
   where
     go : (a : Answer) → replied a s (filled s x) .answer ≡ Accepted → (a ≡ Accepted) × (replied a s (filled s x) .sheet ≡ filled s x)
     go Accepted e = (refl, refl)
-    go (Refused r) e = absurd (let z : _≡_ {A = ℕ} 0 1 = cc in omega arith)
+    go (Refused r) e = clash e
 
 pub held-next : (s : Sheet) (c : Course) → T (reachable s) → firstOf (orderOf s (addCourse c)) ≡ Accepted
     → held (filled s (addCourse c)) ≡ held s ++ (c ∷ [])
 held-next s c h e =
-    let high = ShellTooHigh when ltb 76800 (heightOf (held s) + c .width) in
+    let high = tooHigh (heightOf (held s)) c in
     let o = first-cons (NoTank when tankBlank (s .tank)) ((CoursesFull when leb 12 (s .count)) ∷ (courseFlaws c ++ high ∷ [])) e in
     let f = leb-false 12 (s .count) (first-cons (CoursesFull when leb 12 (s .count)) (courseFlaws c ++ high ∷ []) (o .1) .0) in
     rw (add-one (s .count)) (take-suc-set (s .courses) (s .count) c (omega (arith, f, reach-slots s h .twelve)))

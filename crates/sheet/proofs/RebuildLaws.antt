@@ -26,10 +26,10 @@ use Rattle.sheet.specs.declared.entries.Sheet.{Sheet}
 use Rattle.sheet.specs.declared.entries.Reply.{Reply}
 use Rattle.sheet.specs.declared.entries.Answer.{Answer}
 use Rattle.sheet.specs.declared.entries.Answer.the-variants.{Accepted, Refused}
-use Rattle.sheet.proofs.OrderLaws.{clear-accepted}
+use Rattle.sheet.proofs.OrderLaws.{clash, clear-accepted}
 use Rattle.sheet.proofs.CourseLaws.{height-append}
 use Rattle.sheet.proofs.StepLaws.{tank-taken, site-taken, anchors-taken, course-taken}
-use Rattle.sheet.proofs.ReachLaws.{Slots, Held, three-yes, reach-halves, reach-slots, parts-held, empty-reachable, run-reachable}
+use Rattle.sheet.proofs.ReachLaws.{anchors-blank, Slots, Held, three-yes, reach-halves, reach-slots, parts-held, empty-reachable, run-reachable}
 
 -- ---- a reachable sheet is its parts, with blank slots behind its courses
 
@@ -175,7 +175,7 @@ rebuilt s h d =
 -- ---- and so by a run
 
 pub refused-accepted : (r : Refusal) (s t : Sheet) → refused r s ≡ accepted t → ⊥
-refused-accepted r s t e = let q : Refused r ≡ Accepted = ap (λ (y : Reply). y .answer) e in let z : _≡_ {A = ℕ} 0 1 = cc in omega arith
+refused-accepted r s t e = clash (ap (λ (y : Reply). y .answer) e)
 
 pub in-turn-run : (xs : List Step) (s t : Sheet) → inTurn s xs ≡ accepted t → run s xs ≡ t
 in-turn-run [] s t e = ap (λ (r : Reply). r .sheet) e
@@ -203,16 +203,6 @@ no-tank-empty s h e =
     site-blank : (x : SiteEntry.SiteEntry) → T (siteBlank x) → x ≡ SiteEntry.the-variants.Blank
     site-blank SiteEntry.the-variants.Blank t = refl
     site-blank (SiteEntry.the-variants.Filled x) t = absurd t
-
-    anchors-blank : (a : Anchors) → T (blank (anchorFigures a)) → a ≡ noAnchors
-    anchors-blank a h =
-        let b = and-yes (eqb (a .number) 0) (blank (a .circle ∷ a .size ∷ [])) h in
-        let c = and-yes (eqb (a .circle) 0) (blank (a .size ∷ [])) (b .1) in
-        let x : a .number ≡ 0 = eqb-yes (b .0) in
-        let y : a .circle ≡ 0 = eqb-yes (c .0) in
-        let z : a .size ≡ 0 = eqb-yes (and-yes (eqb (a .size) 0) true (c .1) .0) in
-        let r : _≡_ {A = Anchors} (record { number = a .number; circle = a .circle; size = a .size }) noAnchors = cc in
-        r
 
 reachable-left : (s : Sheet) (e : TankEntry.TankEntry) → s .tank ≡ e → T (reachable s) → LeftByRun s
 reachable-left s TankEntry.the-variants.Blank e h = record { steps = []; leaves = sym (no-tank-empty s h e) }

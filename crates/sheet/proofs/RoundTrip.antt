@@ -30,10 +30,11 @@ use Rattle.sheet.specs.declared.entries.Answer.{Answer}
 use Rattle.sheet.specs.declared.entries.Answer.the-variants.{Accepted, Refused}
 use Rattle.sheet.specs.declared.entries.Written as Written
 use Rattle.sheet.proofs.OrderLaws.{first-cons, first-append, clear-accepted}
+use Rattle.sheet.proofs.AnswerLaws.{read-sheet-reachable}
 use Rattle.sheet.proofs.ByteLaws.{fours-append}
 use Rattle.sheet.proofs.HeaderLaws.{Header, header, headed, count-of-length}
-use Rattle.sheet.proofs.ReachLaws.{T-true, Held, tank-entry-held, parts-held, reach-slots, run-reachable, taken-accepted, filled-reachable, held-next, empty-reachable}
-use Rattle.sheet.proofs.RebuildLaws.{refused-accepted, in-turn-run, held-length, stepsOf, rebuilt}
+use Rattle.sheet.proofs.ReachLaws.{T-true, Held, tank-entry-held, parts-held, reach-slots, taken-accepted, filled-reachable, held-next, empty-reachable}
+use Rattle.sheet.proofs.RebuildLaws.{refused-accepted, held-length, stepsOf, rebuilt}
 use Rattle.sheet.proofs.WriteLaws.{done, write-done, bytes-of-parts, layout-length}
 
 -- ---- one number
@@ -234,9 +235,6 @@ read-holds b s k h e =
     let p = courses-left (coursesIn (countOf (twoIn b)) (drop 60 b)) s3 s r3 (o3 .1) in
     record { tank = p .tank; site = p .site; anchors = p .anchors; courses = p .courses ∙ ap (λ (m : ℕ). coursesIn m (drop 60 b)) n }
 
-in-turn-reachable : (xs : List Step) (s t : Sheet) → T (reachable s) → inTurn s xs ≡ accepted t → T (reachable t)
-in-turn-reachable xs s t r e = subst (λ (z : Sheet). T (reachable z)) (in-turn-run xs s t e) (run-reachable xs s r)
-
 -- what it takes to be read
 pub record Read (b : List ℕ) (s : Sheet) : Type 0 where
   pub head : Header b
@@ -251,7 +249,7 @@ read-split b s e = go (firstOf (readOrder b)) refl e
     go (Refused r) f e = absurd (refused-accepted r emptySheet s e)
 
 pub read-reachable : (b : List ℕ) (s : Sheet) → readIn b ≡ accepted s → T (reachable s)
-read-reachable b s e = in-turn-reachable (stepsIn b) emptySheet s empty-reachable (read-split b s e .steps)
+read-reachable b s e = subst (λ (y : Reply). T (reachable (y .sheet))) e (read-sheet-reachable b)
 
 -- BYTES THAT ARE READ AND WRITTEN AGAIN ARE THE SAME BYTES
 pub read-write : (b : List ℕ) (s : Sheet) → AllBytes b → readIn b ≡ accepted s → (buf : List ℕ) → length b ≤ length buf

@@ -4,12 +4,12 @@ use mathlib.Core.Path.{_≡_, refl, sym, ap, _∙_}
 use mathlib.Core.Bool.{true, false, not, cond}
 use mathlib.Core.List.{List, [], _∷_, _++_}
 use Prim.Native.Nat.{_+_, _≤_, _<_}
-use lib.Dec.{leb, ltb}
+use lib.Dec.{leb}
 use borrow.Author.Tests.{le-leb, lt-leb}
 use Rattle.fields.specs.declared.refusal.Refusal.{Refusal}
-use Rattle.fields.specs.declared.refusal.Refusal.the-variants.{Unreachable, TankStated, NoTank, CoursesFull, ShellTooHigh}
+use Rattle.fields.specs.declared.refusal.Refusal.the-variants.{Unreachable, TankStated, NoTank, CoursesFull}
 use Rattle.sheet.specs.Order.{Condition, _when_, firstOf, orElse}
-use Rattle.sheet.specs.Sheet.{emptySheet, held, heightOf, tankFlaws, siteFlaws, anchorFlaws, courseFlaws}
+use Rattle.sheet.specs.Sheet.{tooHigh, emptySheet, held, heightOf, tankFlaws, siteFlaws, anchorFlaws, courseFlaws}
 use Rattle.sheet.specs.Steps.{Step, stateTank, stateSite, stateAnchors, addCourse, tankBlank, diameterOf, orderOf, filled, refused, replied, taken, stated, reachable, unless, inTurn}
 use Rattle.sheet.specs.declared.entries.Tank.{Tank}
 use Rattle.sheet.specs.declared.entries.Site.{Site}
@@ -44,7 +44,7 @@ module _ (s : Sheet) where
     pub course-early : (c : Course) → taken s (addCourse c) ≡ refused NoTank s
     course-early c =
         by-tank (addCourse c)
-        (λ e. (NoTank when tankBlank e) ∷ (CoursesFull when leb 12 (s .count)) ∷ (courseFlaws c ++ (ShellTooHigh when ltb 76800 (heightOf (held s) + c .width)) ∷ []))
+        (λ e. (NoTank when tankBlank e) ∷ (CoursesFull when leb 12 (s .count)) ∷ (courseFlaws c ++ tooHigh (heightOf (held s)) c ∷ []))
         Blank
         refl
         b
@@ -62,10 +62,10 @@ module _ (s : Sheet) where
 
     course-order : (c : Course)
         → taken s (addCourse c)
-        ≡ replied (cond (leb 12 (s .count)) (Refused CoursesFull) (firstOf (courseFlaws c ++ (ShellTooHigh when ltb 76800 (heightOf (held s) + c .width)) ∷ []))) s (filled s (addCourse c))
+        ≡ replied (cond (leb 12 (s .count)) (Refused CoursesFull) (firstOf (courseFlaws c ++ tooHigh (heightOf (held s)) c ∷ []))) s (filled s (addCourse c))
     course-order c =
         by-tank (addCourse c)
-        (λ e. (NoTank when tankBlank e) ∷ (CoursesFull when leb 12 (s .count)) ∷ (courseFlaws c ++ (ShellTooHigh when ltb 76800 (heightOf (held s) + c .width)) ∷ []))
+        (λ e. (NoTank when tankBlank e) ∷ (CoursesFull when leb 12 (s .count)) ∷ (courseFlaws c ++ tooHigh (heightOf (held s)) c ∷ []))
         (Filled d)
         refl
         f
@@ -75,7 +75,7 @@ module _ (s : Sheet) where
 
     pub course-taken : (c : Course) → s .count < 12
         → taken s (addCourse c)
-        ≡ replied (orElse (firstOf (courseFlaws c)) (ShellTooHigh when ltb 76800 (heightOf (held s) + c .width))) s (filled s (addCourse c))
+        ≡ replied (orElse (firstOf (courseFlaws c)) (tooHigh (heightOf (held s)) c)) s (filled s (addCourse c))
     course-taken c h = course-order c ∙ rw (lt-leb _ _ h, first-or-else (courseFlaws c))
 
   -- a sheet that is handed in: 30 first

@@ -6,7 +6,7 @@ use Prim.Native.Nat.{ℕ, _+_}
 use lib.Dec.{leb, ltb, eqb}
 use lib.ListN.{replicate, take}
 use Rattle.fields.specs.Bolt.{inChart}
-use Rattle.fields.specs.declared.refusal.Refusal.the-variants.{AllowanceNotBelowPlate, BadAnchors}
+use Rattle.fields.specs.declared.refusal.Refusal.the-variants.{AllowanceNotBelowPlate, BadAnchors, ShellTooHigh}
 use Rattle.sheet.specs.Order.{Condition, _when_, outside}
 use Rattle.sheet.specs.declared.entries.Tank.{Tank}
 use Rattle.sheet.specs.declared.entries.Site.{Site}
@@ -64,6 +64,10 @@ badAnchors D a =
     cond (eqb (a .number) 0)
     (not (eqb (a .circle) 0) || not (eqb (a .size) 0))
     (ltb (a .circle) D || not (inChart (a .size)))
+
+-- 34: "this course would bring Hs above 76,800", on courses of this height
+abbrev pub tooHigh : ℕ → Course → Condition
+tooHigh height c = ShellTooHigh when ltb 76800 (height + c .width)
 
 -- What the figures of a step are refused for, in the paper's order: 16 for each field, then 17 or 18.
 unfoldable pub tankFlaws : Tank → List Condition

@@ -4,12 +4,12 @@ use mathlib.Core.Path.{_≡_}
 use mathlib.Core.Bool.{Bool, true, false, not, _&&_}
 use mathlib.Core.List.{List, [], _∷_, _++_}
 use Prim.Native.Nat.{ℕ, _+_}
-use lib.Dec.{leb, ltb, eqb}
+use lib.Dec.{leb, eqb}
 use lib.ListN.{length, take, drop, set}
 use Rattle.fields.specs.declared.refusal.Refusal.{Refusal}
-use Rattle.fields.specs.declared.refusal.Refusal.the-variants.{Unreachable, TankStated, NoTank, CoursesFull, ShellTooHigh, NoCourse, NoSite}
+use Rattle.fields.specs.declared.refusal.Refusal.the-variants.{Unreachable, TankStated, NoTank, CoursesFull, NoCourse, NoSite}
 use Rattle.sheet.specs.Order.{Condition, _when_, firstOf, clear}
-use Rattle.sheet.specs.Sheet.{emptySheet, held, heightOf, tankFlaws, siteFlaws, anchorFlaws, courseFlaws, anchorFigures, courseFigures}
+use Rattle.sheet.specs.Sheet.{tooHigh, emptySheet, held, heightOf, tankFlaws, siteFlaws, anchorFlaws, courseFlaws, anchorFigures, courseFigures}
 use Rattle.sheet.specs.declared.entries.Tank.{Tank}
 use Rattle.sheet.specs.declared.entries.Site.{Site}
 use Rattle.sheet.specs.declared.entries.Anchors.{Anchors}
@@ -45,7 +45,7 @@ orderOf s (stateAnchors a) = (NoTank when tankBlank (s .tank)) ∷ anchorFlaws (
 orderOf s (addCourse c) =
     (NoTank when tankBlank (s .tank))
     ∷ (CoursesFull when leb 12 (s .count))
-    ∷ (courseFlaws c ++ (ShellTooHigh when ltb 76800 (heightOf (held s) + c .width)) ∷ [])
+    ∷ (courseFlaws c ++ tooHigh (heightOf (held s)) c ∷ [])
 
 -- what an accepted step leaves
 abbrev pub filled : Sheet → Step → Sheet

@@ -1,11 +1,8 @@
 -- `sheet::steps::take_course` meets its contract. Assumes nothing.
 use mathlib.Core.Path.{_∙_, sym, ap}
-use Prim.Native.Nat.{_+_}
-use lib.Dec.{ltb}
 use borrow.Author.Needs.{needs}
-use Rattle.fields.specs.declared.refusal.Refusal.the-variants.{ShellTooHigh}
-use Rattle.sheet.specs.Sheet.{courseFlaws}
-use Rattle.sheet.specs.Order.{firstOf, _when_, orElse}
+use Rattle.sheet.specs.Sheet.{tooHigh, courseFlaws}
+use Rattle.sheet.specs.Order.{firstOf, orElse}
 use Rattle.sheet.specs.Steps.{addCourse, filled, replied}
 use Rattle.sheet.proofs.StepLaws.{course-taken, course-early, course-full}
 use Rattle.sheet.proofs.steps.take_course.Statement.{statement}
@@ -64,8 +61,8 @@ returns-3 c = let f = c .before .before .before .before in
     c .reply .ensures
     ∙ ap (λ a. replied a (s .args .s) (filled (s .args .s) (addCourse x)))
     (c .before .before .before .or-else .ensures
-    ∙ ap (λ a. orElse a (ShellTooHigh when ltb 76800 (s .args .height + x .width))) (f .course-flaw .ensures)
-    ∙ ap (λ h. orElse (firstOf (courseFlaws x)) (ShellTooHigh when ltb 76800 (h + x .width))) (s .pre .0))
+    ∙ ap (λ a. orElse a (tooHigh (s .args .height) x)) (f .course-flaw .ensures)
+    ∙ ap (λ h. orElse (firstOf (courseFlaws x)) (tooHigh h x)) (s .pre .0))
     ∙ sym (course-taken (s .args .s) (t .0 .0) (t .1) x (f .before .before .if1 .left))
 
 pub take-course-spec : {M : Type 1} → statement M
