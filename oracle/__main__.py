@@ -13,6 +13,8 @@ from pathlib import Path
 
 import document
 import example
+import judged
+import judging
 import leaves
 import records
 import scripts
@@ -24,6 +26,7 @@ STDOUT = "crates/leaves/stdout"
 EXAMPLE = "crates/example/stdout"
 SCRIPTS_STDIN = "crates/scripts/stdin"      # records, not lines
 SCRIPTS_STDOUT = "crates/scripts/stdout"
+MOST_SCRIPTS_BYTES = 2**21                  # what the program has room for
 
 
 def leaf_files():
@@ -34,11 +37,21 @@ def leaf_files():
     return {STDIN: stdin, STDOUT: stdout}
 
 
+def all_groups():
+    """The scripts of steps and bytes, then the judged sheets: name to records."""
+    to_judge = {f"judged_{name}": [records.to_judge(record) for record in group]
+                for name, group in judged.group_records().items()}
+    return {**scripts.group_records(), **to_judge}
+
+
+def all_records():
+    return [record for group in all_groups().values() for record in group]
+
+
 def script_files():
-    stdin = records.as_bytes(scripts.all_records())
-    stdout = leaves.as_bytes(scripts.all_lines())
-    assert len(stdin) < scripts.MOST_STDIN_BYTES
-    assert len(stdout) < scripts.MOST_STDOUT_BYTES
+    stdin = records.as_bytes(all_records())
+    stdout = leaves.as_bytes(scripts.all_lines() + judged.all_lines())
+    assert len(stdin) < MOST_SCRIPTS_BYTES
     return {SCRIPTS_STDIN: stdin, SCRIPTS_STDOUT: stdout}
 
 
@@ -49,9 +62,10 @@ def made_files():
 
 def made_count(name, content):
     if name == SCRIPTS_STDIN:
-        return f"{len(scripts.all_records())} records"
+        return f"{len(all_records())} records"
     line_count = content.count(b"\n")
-    return f"{line_count} lines"
+    words = f" (judged: {judged.word_counts()})" if name == SCRIPTS_STDOUT else ""
+    return f"{line_count} lines{words}"
 
 
 def make():
@@ -77,7 +91,7 @@ def record_difference(stored, made):
     """The same for records, which are not lines; line N of stdout answers record N."""
     for alike, (one, other) in enumerate(zip(stored, made)):
         if one != other:
-            number = records.record_number(scripts.all_records(), alike)
+            number = records.record_number(all_records(), alike)
             return f"first in record {number}, after {alike} bytes alike"
     return f"{len(stored)} bytes stored, {len(made)} made"
 
@@ -104,8 +118,9 @@ def check():
 
 
 def groups():
-    for line in scripts.group_lines():
+    for line in records.group_lines(all_groups()):
         print(line)
+    print(f"judged: {judged.word_counts()}")
     return 0
 
 
@@ -119,7 +134,9 @@ def main(arguments):
         return 2
     document.self_test()
     sheet.self_test()
+    judging.self_test()
     scripts.self_test()
+    judged.self_test()
     return commands[arguments[0]]()
 
 

@@ -1,7 +1,6 @@
-"""Document 01's example tank, and the lines of its report as far as rules give them.
+"""Document 01's example tank, and the lines of its report.
 
-From "The example tank": course, wind, pull and anchor lines. The last line, the
-word on the tank, comes with judging.
+From "The example tank": course, wind, pull and anchor lines, and the word on the tank.
 """
 
 import document as doc
@@ -36,4 +35,7 @@ def anchored_lines():
 
 
 def lines():
-    return [*course_lines(), *anchored_lines()]
+    """Sound when no line before it has a check that falls short."""
+    checks = [*course_lines(), *anchored_lines()]
+    falls_short = any("short" in line.split() for line in checks)
+    return [*checks, f"tank {'short' if falls_short else 'sound'}"]

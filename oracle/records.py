@@ -3,6 +3,8 @@
 The program holds one current sheet. A record is an opcode byte, two bytes for the length of
 the payload, and the payload; its figures have four bytes each. All numbers are big-endian.
 Each record has one line: the answer's word, and then the sheet or the lent buffer after it.
+MARK and JUDGE, whose lines judged.py has, judge what READ and FORGE would make the current
+sheet, and leave that as it is.
 """
 
 import struct
@@ -16,7 +18,7 @@ MOST_READ = 700
 
 # --- Records ------------------------------------------------------------------
 
-NEW, TANK, SITE, ANCHORS, COURSE, WRITE, READ, FORGE = range(8)
+NEW, TANK, SITE, ANCHORS, COURSE, WRITE, READ, FORGE, MARK, JUDGE = range(10)
 OPENING = (NEW, READ, FORGE)    # these set the current sheet
 STEPS = {TANK: model.TANK, SITE: model.SITE, ANCHORS: model.ANCHORS, COURSE: model.COURSE}
 
@@ -84,6 +86,11 @@ def forged(figures):
                        figures[13:16], slots, figures[16])
 
 
+def to_judge(record):
+    """The record that hands the same bytes, or the same sheet, in for judging."""
+    return record._replace(opcode={READ: MARK, FORGE: JUDGE}[record.opcode])
+
+
 def as_bytes(records):
     heads = (struct.pack(">BH", record.opcode, len(record.payload)) for record in records)
     return b"".join(head + record.payload for head, record in zip(heads, records))
@@ -97,6 +104,15 @@ def record_number(records, offset):
         if offset < end:
             return number
     return len(records) + 1
+
+
+def group_lines(groups):
+    """Which records, and so which lines, each group has; the name of each gives its records."""
+    first = 1
+    for name, records in groups.items():
+        last = first + len(records) - 1
+        yield f"{name}: {first} to {last}"
+        first = last + 1
 
 
 # --- Lines --------------------------------------------------------------------

@@ -21,8 +21,6 @@ from records import (
 )
 
 LEAST_RECORDS = 2_500
-MOST_STDIN_BYTES = 500_000
-MOST_STDOUT_BYTES = 1_500_000
 U32_MOST = 2**32 - 1
 
 # --- Making scripts -----------------------------------------------------------
@@ -1161,15 +1159,6 @@ def all_outcomes():
 
 def all_lines():
     return [result.word + result.text for result in all_outcomes()]
-
-
-def group_lines():
-    """Which records, and so which lines, each group has."""
-    first = 1
-    for name, records in group_records().items():
-        last = first + len(records) - 1
-        yield f"{name}: {first} to {last}"
-        first = last + 1
 
 
 # --- Self test, over all vectors ----------------------------------------------

@@ -1,10 +1,12 @@
 // Whole-number arithmetic that loses nothing: quotients rounded to a stated side, the greatest root,
 // and the one f64 nearest to a quotient.
+mod float;
 mod quotient;
 mod ratio;
 mod root;
 mod sign;
 
+pub use float::bits;
 pub use quotient::down;
 pub use quotient::up;
 pub use quotient::up_signed;

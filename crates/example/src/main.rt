@@ -1,94 +1,66 @@
-// The figures of document 01's example tank, each worked out by its rule and written as the report's
-// lines. The word sound or short comes with judging.
-use libc::STDOUT_FILENO;
-use rules::anchors;
-use rules::hoop;
-use rules::verdict::Verdict;
-use rules::wind;
+// Document 01's example tank, filled in step by step and judged; its report as the paper's lines.
+mod lines;
 
-const DIAMETER: u32 = 14400;
-
-const LEVEL: u32 = 28800;
-
-const WEIGHT: u32 = 11000;
-
-const CIRCLE: u32 = 14800;
-
-const ANCHORS: u32 = 6;
+use judge::judging;
+use sheet::entries::Anchors;
+use sheet::entries::Answer;
+use sheet::entries::Course;
+use sheet::entries::Sheet;
+use sheet::entries::Site;
+use sheet::entries::Tank;
+use sheet::steps;
 
 fn main() {
-    course(1, 0);
-    course(2, 9600);
-    course(3, 19200);
-    anchored();
-}
-
-// A course, 250 mils with no allowance, of 15,000 psi and 0.85, whose bottom edge is at this height.
-fn course(number: u64, edge: u32) {
-    let h = hoop::head(LEVEL, edge);
-    let need = hoop::need(h, DIAMETER, 15000, 85);
-    let required = hoop::required(need, 0, DIAMETER);
-    course_line(number, need, required, hoop::check(required, 250));
-}
-
-fn anchored() {
-    let pressure = wind::pressure(109, 115, 105);
-    let moment = wind::moment(pressure, DIAMETER, 28800);
-    let by_wind = anchors::pull(moment, WEIGHT, CIRCLE, ANCHORS);
-    let by_quake = anchors::pull(30000, WEIGHT, CIRCLE, ANCHORS);
-    let strength = anchors::strength(anchors::larger(by_wind, by_quake), fields::stress_area(8));
-    wind_lines(pressure, moment, by_wind, by_quake);
-    anchor_line(anchors::spacing(CIRCLE, ANCHORS), strength);
-}
-
-fn course_line(number: u64, need: u64, required: u64, plate: Verdict) {
-    word(b"course");
-    figure(number);
-    figure(need);
-    figure(required);
-    figure(250);
-    verdict(plate);
-    word(b"\n");
-}
-
-fn wind_lines(pressure: u64, moment: u64, by_wind: i64, by_quake: i64) {
-    word(b"wind");
-    figure(pressure);
-    figure(moment);
-    word(b"\npull");
-    signed(by_wind);
-    signed(by_quake);
-    word(b"\n");
-}
-
-fn anchor_line(spacing: Verdict, strength: Verdict) {
-    word(b"anchors spacing");
-    verdict(spacing);
-    word(b" strength");
-    verdict(strength);
-    word(b"\n");
-}
-
-fn word(text: &[u8]) {
-    io::write_all(STDOUT_FILENO, text);
-}
-
-fn figure(n: u64) {
-    word(b" ");
-    io::print_decimal(STDOUT_FILENO, n);
-}
-
-fn signed(z: i64) {
-    word(b" ");
-    if z < 0 {
-        word(b"-");
+    let judgement = judging::judge(example());
+    let answer = judgement.answer;
+    if let Answer::Refused(r) = answer {
+        lines::refusal(r);
+        return;
     }
-    io::print_decimal(STDOUT_FILENO, exact::magnitude(z));
+    let report = judgement.report;
+    lines::report(report);
 }
 
-fn verdict(v: Verdict) {
-    match v {
-        Verdict::Holds(_) => word(b" ok"),
-        Verdict::Short(_) => word(b" short"),
-    }
+// A refused step would leave the sheet as it was, and judging would say what is missing.
+fn example() -> Sheet {
+    let tank = Tank {
+        diameter: 14400,
+        level: 28800,
+        weight: 11000,
+        plate: 250,
+        allowance: 0,
+        fy: 36000,
+    };
+    let site = Site {
+        wind: 105,
+        exposure: 109,
+        importance: 115,
+        vertical: 27,
+        moment: 30000,
+    };
+    let anchors = Anchors {
+        number: 6,
+        circle: 14800,
+        size: 8,
+    };
+    let reply = steps::state_tank(Sheet::empty(), tank);
+    let stated = reply.sheet;
+    let reply = steps::state_site(stated, site);
+    let stated = reply.sheet;
+    let reply = steps::state_anchors(stated, anchors);
+    let stated = reply.sheet;
+    higher(higher(higher(stated)))
+}
+
+// One course more.
+fn higher(s: Sheet) -> Sheet {
+    let course = Course {
+        width: 9600,
+        plate: 250,
+        allowance: 0,
+        stress: 15000,
+        efficiency: 85,
+    };
+    let reply = steps::add_course(s, course);
+    reply.sheet
 }

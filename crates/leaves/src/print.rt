@@ -30,7 +30,7 @@ pub(crate) fn truth(b: bool) {
 
 // A float by its bits, in hexadecimal.
 pub(crate) fn float(x: f64) {
-    io::print_hex(STDOUT_FILENO, bits(x), 16);
+    io::print_hex(STDOUT_FILENO, exact::bits(x), 16);
     io::write_all(STDOUT_FILENO, b"\n");
 }
 
@@ -66,12 +66,4 @@ pub(crate) fn refusal(paper: Paper) {
     io::print_decimal(STDOUT_FILENO, paper.number as u64);
     io::write_all(STDOUT_FILENO, b" ");
     number(paper.field as u64);
-}
-
-// A NaN has no bits that are known; no use is one.
-fn bits(x: f64) -> u64 {
-    if x != x {
-        return 0;
-    }
-    f64::to_bits(x)
 }

@@ -12,7 +12,7 @@ use Rattle.rules.specs.Verdict.{useOf, verdictOf, verdictWord, holds, us
 use Rattle.rules.specs.Hoop.{courseVerdict}
 use Rattle.rules.specs.Anchors.{windVerdict, spacingVerdict, strengthVerdict}
 use Rattle.rules.specs.declared.verdict.Verdict.the-variants.{Holds, Short}
-use Rattle.rules.specs.Earthquake.{upliftOf, upliftWord, liftWord, stands, quakeVerdict}
+use Rattle.rules.specs.Earthquake.{upliftOf, upliftWord, liftWord, upliftHolds, quakeVerdict}
 use Rattle.rules.specs.declared.earthquake.Uplift.the-variants.{None, Lift, Over}
 
 pub verdict-holds : (need capacity : ℕ) → holds (verdictOf need capacity) ≡ leb need capacity
@@ -57,15 +57,15 @@ pub strength-holds : (pull A : ℕ) → holds (strengthVerdict pull A) ≡ leb (
 unfolding strengthVerdict
 strength-holds pull A = verdict-holds (1000 * pull) (19950 * A)
 
-pub quake-stands : (Ms t : ℕ) → stands (upliftOf Ms t) ≡ holds (quakeVerdict Ms t)
+pub quake-stands : (Ms t : ℕ) → upliftHolds (upliftOf Ms t) ≡ holds (quakeVerdict Ms t)
 unfolding upliftOf
 quake-stands Ms t = rw quake-holds (go (leb (1000 * Ms) (785 * t)) (leb→le (1000 * Ms) (785 * t)))
   where
-    unless : (b : Bool) → stands (cond b Lift Over) ≡ b
+    unless : (b : Bool) → upliftHolds (cond b Lift Over) ≡ b
     unless true = refl
     unless false = refl
 
-    go : (a : Bool) → (T a → 1000 * Ms ≤ 785 * t) → stands (cond a None (cond (leb (1000 * Ms) (1540 * t)) Lift Over)) ≡ leb (1000 * Ms) (1540 * t)
+    go : (a : Bool) → (T a → 1000 * Ms ≤ 785 * t) → upliftHolds (cond a None (cond (leb (1000 * Ms) (1540 * t)) Lift Over)) ≡ leb (1000 * Ms) (1540 * t)
     go true h = rw (le-leb (1000 * Ms) (1540 * t) (omega (arith, h tt)))
     go false h = unless (leb (1000 * Ms) (1540 * t))
 

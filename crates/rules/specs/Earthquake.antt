@@ -60,10 +60,10 @@ unfoldable pub liftWord : ℕ → ℕ → List ℕ
 liftWord Ms T = byUplift Ms T none-word lift-word over-word
 
 -- and says of the check: it holds unless over.
-abbrev pub stands : Uplift → Bool
-stands None = true
-stands Lift = true
-stands Over = false
+abbrev pub upliftHolds : Uplift → Bool
+upliftHolds None = true
+upliftHolds Lift = true
+upliftHolds Over = false
 
 -- The self-anchored earthquake check: 1,000 × Ms at most 1,540 × T.
 unfoldable pub quakeVerdict : ℕ → ℕ → Verdict

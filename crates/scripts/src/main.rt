@@ -1,10 +1,16 @@
-// Runs scripts of steps, sheets that are built by hand, and bytes. Standard input is records: a code,
-// two bytes of length, and the payload, whose figures have four bytes each, big-endian. One sheet is
-// held from record to record; each record's reply is written on a line of its own. oracle/records.py
-// has the format, and makes both the scripts and what is to be written.
+// Runs scripts of steps, sheets that are built by hand, and bytes, and judges sheets. Standard input is
+// records: a code, two bytes of length, and the payload, whose figures have four bytes each, big-endian.
+// One sheet is held from record to record; each record's reply is written on a line of its own.
+// oracle/records.py has the format, and makes both the scripts and what is to be written.
+ghost use Prim.Native.Nat.{_≤_};
+
 mod figures;
 mod print;
+mod report;
 
+use judge::judging;
+use judge::marking;
+use judge::report::Judgement;
 use libc::STDIN_FILENO;
 use sheet::entries::Reply;
 use sheet::entries::Sheet;
@@ -12,29 +18,34 @@ use sheet::reading;
 use sheet::steps;
 use sheet::writing;
 
+// More records than any file has, so that the program ends.
+const MOST_RECORDS: usize = 100000;
+
 fn main() {
-    let mut space = [0u8; 524288];
-    let n = io::read_full(STDIN_FILENO, &mut space);
-    run(&space[..n]);
+    let mut held = Sheet::empty();
+    let mut n: usize = 0;
+    while n < MOST_RECORDS {
+        let mut head = [0u8; 3];
+        if io::read_full(STDIN_FILENO, &mut head) < 3 {
+            return;
+        }
+        let size = 256 * figures::wide(head[1]) + figures::wide(head[2]);
+        if 4096 < size {
+            return;
+        }
+        held = record(held, head[0], size);
+        n += 1;
+    }
 }
 
-fn run(text: &[u8]) {
-    let mut held = Sheet::empty();
-    let mut at: usize = 0;
-    while at < text.len() {
-        let left = text.len() - at;
-        if left < 3 {
-            return;
-        }
-        let size = 256 * figures::wide(text[at + 1]) + figures::wide(text[at + 2]);
-        if left - 3 < size {
-            return;
-        }
-        let start = at + 3;
-        let end = start + size;
-        held = answer(held, text[at], &text[start..end]);
-        at = end;
-    }
+// The sheet after the record whose payload, of this size, comes next.
+fn record(held: Sheet, code: u8, size: usize) -> Sheet
+    requires { ⌜ size ≤ 4096 ⌝ }
+{
+    let mut space = io::buffer();
+    let payload = &mut space[..size];
+    io::read_full(STDIN_FILENO, payload);
+    answer(held, code, payload)
 }
 
 // The sheet after one record.
@@ -47,7 +58,9 @@ fn answer(held: Sheet, code: u8, payload: &[u8]) -> Sheet {
         4 => replied(steps::add_course(held, figures::course(payload, 0))),
         5 => written(held, payload),
         6 => replied(reading::read(payload)),
-        _ => shown(figures::sheet(payload)),
+        7 => shown(figures::sheet(payload)),
+        8 => judged(held, marking::mark(payload)),
+        _ => judged(held, judging::judge(figures::sheet(payload))),
     }
 }
 
@@ -74,5 +87,14 @@ fn written(held: Sheet, payload: &[u8]) -> Sheet {
     figures::pattern(room, fill);
     print::written(writing::write(held, room));
     print::buffer(room);
+    held
+}
+
+// The sheet that is held stays as it is.
+fn judged(held: Sheet, judgement: Judgement) -> Sheet {
+    let answer = judgement.answer;
+    let report = judgement.report;
+    print::judged(answer);
+    report::report(report);
     held
 }

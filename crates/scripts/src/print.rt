@@ -21,6 +21,15 @@ pub(crate) fn answer(a: Answer) {
     }
 }
 
+pub(crate) fn judged(a: Answer) {
+    match a {
+        Answer::Accepted => {
+            io::write_all(STDOUT_FILENO, b"accepted");
+        }
+        Answer::Refused(r) => refusal(r),
+    }
+}
+
 pub(crate) fn written(w: Written) {
     match w {
         Written::Bytes(n) => {
@@ -41,7 +50,7 @@ fn refusal(r: Refusal) {
 }
 
 // A blank and the number.
-fn number(n: u64) {
+pub(crate) fn number(n: u64) {
     io::write_all(STDOUT_FILENO, b" ");
     io::print_decimal(STDOUT_FILENO, n);
 }

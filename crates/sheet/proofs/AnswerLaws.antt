@@ -143,7 +143,7 @@ read-exactly b r = go (firstOf (readOrder b)) refl
 
 -- ---- REFUSAL 30: exactly where no run of steps leaves the sheet that is handed in
 
-abbrev other : Condition → Bool
+abbrev pub other : Condition → Bool
 other c = not (eqb (paperOf (c .refusal) .number) 30)
 
 never-thirty : (cs : List Condition) → T (each other cs) → firstOf cs ≡ Refused Unreachable → ⊥
@@ -155,7 +155,7 @@ never-thirty (c ∷ cs) h e = go (c .holds) (and-yes (other c) (each other cs) h
     go true h f e = let k : c .refusal ≡ Unreachable = cc in subst (λ (r : Refusal). T (not (eqb (paperOf r .number) 30))) k (h .0)
     go false h f e = f (h .1) e
 
-thirty-first : (s : Sheet) (cs : List Condition) → T (each other cs) → (firstOf (unreachable s ∷ cs) ≡ Refused Unreachable) ↔ (LeftByRun s → ⊥)
+pub thirty-first : (s : Sheet) (cs : List Condition) → T (each other cs) → (firstOf (unreachable s ∷ cs) ≡ Refused Unreachable) ↔ (LeftByRun s → ⊥)
 thirty-first s cs h = go (reachable s) refl
   where
     go : (b : Bool) → reachable s ≡ b → (cond (not b) (Refused Unreachable) (firstOf cs) ≡ Refused Unreachable) ↔ (LeftByRun s → ⊥)

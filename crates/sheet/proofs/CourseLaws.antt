@@ -1,12 +1,12 @@
 -- The laws of the height of a list of courses.
 -- Assumes nothing.
-use mathlib.Core.Path.{_≡_}
+use mathlib.Core.Path.{_≡_, ap}
 use mathlib.Core.List.{List, [], _∷_, _++_}
-use Prim.Native.Nat.{ℕ, _+_, _<_}
+use Prim.Native.Nat.{ℕ, _+_, _≤_, _<_}
 use native.Mathlib.Numerals.{add-one}
 use native.Mathlib.Omega.{arith}
-use lib.ListN.{length, getD, take}
-use lib.Seq.{take-suc}
+use lib.ListN.{length, getD, take, drop, take-append-drop}
+use lib.Seq.{take-all, take-suc, take-take, getD-take, length-take-le}
 use Rattle.sheet.specs.Sheet.{blankCourse, heightOf}
 use Rattle.sheet.specs.declared.entries.Course.{Course}
 
@@ -19,3 +19,22 @@ pub height-next : (cs : List Course) (i : ℕ) → i < length cs → heightOf (t
 height-next cs i h =
     rw (add-one i, take-suc cs i blankCourse h)
     (omega (arith, height-append (take i cs) (getD cs i blankCourse ∷ [])))
+
+-- a count past the courses
+pub all-high : (cs : List Course) (n : ℕ) → length cs ≤ n → heightOf (take n cs) ≡ heightOf cs
+all-high cs n h = ap heightOf (take-all n cs h)
+
+-- a course's top edge is no higher than the shell
+pub top-within : (cs : List Course) (i n : ℕ) → i < n → n ≤ length cs
+    → heightOf (take i cs) + getD cs i blankCourse .width ≤ heightOf (take n cs)
+top-within cs i n h l =
+    let p = take n cs in
+    let long : length p ≡ n = length-take-le n cs l in
+    omega (
+      arith,
+      height-next p i (omega (arith, long)),
+      ap heightOf (take-take i n cs (omega arith)),
+      ap (λ (c : Course). c .width) (getD-take n cs i blankCourse h),
+      ap heightOf (take-append-drop (i + 1) p),
+      height-append (take (i + 1) p) (drop (i + 1) p),
+    )

@@ -3,7 +3,8 @@
 use mathlib.Core.Path.{_≡_}
 use mathlib.Core.Bool.{Bool, true, false}
 use mathlib.Core.List.{List, [], _∷_, _++_}
-use Prim.Native.Nat.{ℕ, _+_, _≤_, _<_}
+use Prim.Native.Nat.{ℕ, zero, suc, _+_, _≤_, _<_}
+use native.Mathlib.Nat.{le-of-suc-le-suc, not-suc-le-zero}
 use native.Mathlib.Numerals.{add-one}
 use native.Mathlib.Omega.{arith}
 use lib.ListN.{length, getD, take, drop, drop-of-length-le}
@@ -37,6 +38,11 @@ module _ {A : Type 0} (f : A → Bool) (l : List A) (n i : ℕ) (d : A) (fits : 
   each-of-end h = each-end f (take n l) i d (omega (arith, long))
 
 module _ {A : Type 0} (f : A → Bool) where
+  pub each-at : (l : List A) (i : ℕ) (d : A) → i < length l → T (each f l) → T (f (getD l i d))
+  each-at [] i d h t = absurd (not-suc-le-zero h)
+  each-at (x ∷ xs) zero d h t = and-yes (f x) (each f xs) t .0
+  each-at (x ∷ xs) (suc i) d h t = each-at xs i d (le-of-suc-le-suc h) (and-yes (f x) (each f xs) t .1)
+
   pub append-each : (xs ys : List A) → T (each f xs) → T (each f ys) → T (each f (xs ++ ys))
   append-each [] ys a b = b
   append-each (x ∷ xs) ys a b = let h = and-yes (f x) (each f xs) a in yes-and (f x) (each f (xs ++ ys)) (h .0) (append-each xs ys (h .1) b)

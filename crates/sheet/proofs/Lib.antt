@@ -3,7 +3,9 @@ pub mod OrderLaws
 pub mod EachLaws
 pub mod CourseLaws
 pub mod StepLaws
+pub mod FieldLaws
 pub mod ReachLaws
+pub mod OpenLaws
 pub mod RebuildLaws
 pub mod HeaderLaws
 pub mod ByteLaws

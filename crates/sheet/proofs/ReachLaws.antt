@@ -18,6 +18,7 @@ use Rattle.sheet.specs.Order.{_when_, firstOf, clear}
 use Rattle.sheet.specs.Sheet.{tooHigh, noAnchors, anchorFigures, courseFigures, blankCourse, emptySheet, held, heightOf, badAnchors, tankFlaws, siteFlaws, anchorFlaws, courseFlaws}
 use Rattle.sheet.specs.Steps.{Step, stateTank, stateSite, stateAnchors, addCourse, tankBlank, diameterOf, orderOf, filled, replied, taken, run, blank, siteBlank, siteClear, coursesClear, coursesBlank, slotsReachable, partsReachable, reachable}
 use Rattle.sheet.specs.declared.entries.Tank.{Tank}
+use Rattle.sheet.specs.declared.entries.Site.{Site}
 use Rattle.sheet.specs.declared.entries.Anchors.{Anchors}
 use Rattle.sheet.specs.declared.entries.Course.{Course}
 use Rattle.sheet.specs.declared.entries.TankEntry as TankEntry
@@ -132,6 +133,14 @@ pub record Held (e : TankEntry.TankEntry) : Type 0 where
 pub tank-entry-held : (e : TankEntry.TankEntry) → tankBlank e ≡ false → Held e
 tank-entry-held TankEntry.the-variants.Blank h = absurd (subst T h tt)
 tank-entry-held (TankEntry.the-variants.Filled t) h = record { tank = t; is = refl }
+
+pub record Placed (e : SiteEntry.SiteEntry) : Type 0 where
+  pub site : Site
+  pub is : e ≡ SiteEntry.the-variants.Filled site
+
+pub site-entry-placed : (e : SiteEntry.SiteEntry) → siteBlank e ≡ false → Placed e
+site-entry-placed SiteEntry.the-variants.Blank h = absurd (subst T h tt)
+site-entry-placed (SiteEntry.the-variants.Filled x) h = record { site = x; is = refl }
 
 module _ (s : Sheet) (h : T (reachable s)) where
   parts : T (partsReachable (s .tank) (s .site) (s .anchors) (s .count))

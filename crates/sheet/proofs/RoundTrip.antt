@@ -2,7 +2,6 @@
 -- is the same sheet (`write-read`); reading takes no bytes that writing could not have made (`read-made`).
 -- Assumes nothing.
 use mathlib.Core.Path.{_≡_, refl, sym, ap, _∙_, subst}
-use mathlib.Core.Bool.{false, not}
 use mathlib.Core.List.{List, [], _∷_, _++_, map, append-assoc, append-nil}
 use Prim.Native.Nat.{ℕ, zero, suc, _+_, _*_, _-_, _/_, _%_, _≤_, _<_}
 use native.Mathlib.Omega.{arith}
@@ -10,14 +9,14 @@ use lib.Dec.{T}
 use lib.ListN.{length, getD, take, drop, take-append-drop, length-drop, drop-of-length-le}
 use lib.Seq.{getD-drop, drop-drop, take-at, take-add, take-all, drop-cons, append-snoc}
 use mir.Facts.{and-yes}
-use borrow.Author.Tests.{not-false}
-use Rattle.fields.specs.Range.{range, within}
-use Rattle.fields.specs.declared.refusal.Refusal.the-variants.{OutOfRange, BadAnchors}
+use Rattle.fields.specs.declared.refusal.Refusal.the-variants.{BadAnchors}
 use Rattle.fields.proofs.RangeLaws.{within-most}
 use Rattle.sheet.specs.Order.{Condition, _when_, firstOf, outside, clear}
 use Rattle.sheet.specs.Sheet.{tankFigures, siteFigures, anchorFigures, courseFigures, emptySheet, held, allowanceTooLarge, badAnchors, tankFlaws, siteFlaws, anchorFlaws, courseFlaws}
-use Rattle.sheet.specs.Steps.{Step, stateTank, stateSite, stateAnchors, addCourse, orderOf, filled, accepted, taken, siteBlank, siteClear, coursesClear, reachable, unless, inTurn}
+use Rattle.sheet.specs.Steps.{Step, stateTank, stateSite, stateAnchors, addCourse, orderOf, filled, accepted, taken, siteClear, coursesClear, reachable, unless, inTurn, openedOf}
 use Rattle.sheet.specs.Bytes.{AllBytes, two, four, fours, twoIn, fourIn, bodyLength, wholeLength, coursesFigures, headerOf, layout, bytesOf, WriteReply, Complete, written, tankIn, siteIn, anchorsIn, courseIn, coursesIn, countOf, fromCourses, fromAnchors, fromSite, stepsIn, readOrder, readIn}
+use Rattle.sheet.specs.declared.entries.Entries.{Entries}
+use Rattle.sheet.specs.declared.entries.Opened as Opened
 use Rattle.sheet.specs.declared.entries.Tank.{Tank}
 use Rattle.sheet.specs.declared.entries.Site.{Site}
 use Rattle.sheet.specs.declared.entries.Anchors.{Anchors}
@@ -29,13 +28,15 @@ use Rattle.sheet.specs.declared.entries.Reply.{Reply}
 use Rattle.sheet.specs.declared.entries.Answer.{Answer}
 use Rattle.sheet.specs.declared.entries.Answer.the-variants.{Accepted, Refused}
 use Rattle.sheet.specs.declared.entries.Written as Written
-use Rattle.sheet.proofs.OrderLaws.{first-cons, first-append, clear-accepted}
+use Rattle.sheet.proofs.FieldLaws.{Pass, all-pass, both-pass}
+use Rattle.sheet.proofs.OpenLaws.{open-done, whole-sheet, tank-is, site-is}
+use Rattle.sheet.proofs.OrderLaws.{clear-accepted}
 use Rattle.sheet.proofs.AnswerLaws.{read-sheet-reachable}
 use Rattle.sheet.proofs.ByteLaws.{fours-append}
 use Rattle.sheet.proofs.HeaderLaws.{Header, header, headed, count-of-length}
-use Rattle.sheet.proofs.ReachLaws.{T-true, Held, tank-entry-held, parts-held, reach-slots, taken-accepted, filled-reachable, held-next, empty-reachable}
+use Rattle.sheet.proofs.ReachLaws.{T-true, Held, tank-entry-held, parts-held, reach-slots, taken-accepted, filled-reachable, held-next, empty-reachable, site-entry-placed}
 use Rattle.sheet.proofs.RebuildLaws.{refused-accepted, held-length, stepsOf, rebuilt}
-use Rattle.sheet.proofs.WriteLaws.{done, write-done, bytes-of-parts, layout-length}
+use Rattle.sheet.proofs.WriteLaws.{done, write-done, bytes-of-entries, layout-length}
 
 -- ---- one number
 
@@ -261,12 +262,14 @@ read-write b s k e buf l =
     let ok = read-reachable b s e in
     let n : s .count ≡ h .n = sym (held-length s ok) ∙ ap length (p .courses) ∙ courses-in-length (h .n) (drop 60 b) in
     let m : wholeLength (s .count) ≡ length b = omega (arith, n, h .whole) in
+    let t : Entries = record { tank = tank-read b k h; site = site-read b k h } in
+    let o = open-done s (T-true (reachable s) ok) (tank-read b k h) (p .tank) (λ z. omega (arith, z, n, h .some)) (site-read b k h) (p .site) in
     let same : bytesOf s ≡ b
-    = bytes-of-parts s (tank-read b k h) (site-read b k h) (p .tank) (p .site)
+    = bytes-of-entries s t o
     ∙ ap (λ (a : Anchors). layout (tank-read b k h) (site-read b k h) a (held s)) (p .anchors)
     ∙ ap (λ (cs : List Course). layout (tank-read b k h) (site-read b k h) (anchors-read b k h) cs) (p .courses)
     ∙ same-bytes b k h in
-    write-done s buf (T-true (reachable s) ok) (tank-read b k h) (p .tank) (λ z. omega (arith, z, n, h .some)) (site-read b k h) (p .site) (omega (arith, m))
+    write-done s buf t o (omega (arith, m))
     ∙ ap (λ (z : List ℕ). done (s .count) z buf) same
     ∙ ap (λ (i : ℕ). record { answer = Written.the-variants.Bytes i; buffer = b ++ drop i buf }) m
 
@@ -286,14 +289,12 @@ abbrev Small : List ℕ → Type 0
 Small [] = Unit {0}
 Small (x ∷ xs) = (x < 4294967296) × Small xs
 
-in-range-small : (k : ℕ) (xs : List ℕ) → firstOf (outside k xs) ≡ Accepted → Small xs
-in-range-small k [] e = tt
-in-range-small k (x ∷ xs) e =
-    let o = first-cons (OutOfRange k when not (within (range k) x)) (outside (suc k) xs) e in
-    (omega (arith, within-most k x (not-false (within (range k) x) (o .0))), in-range-small (suc k) xs (o .1))
+small-of : (k : ℕ) (xs : List ℕ) → Pass k xs → Small xs
+small-of k [] p = tt
+small-of k (x ∷ xs) p = (omega (arith, within-most k x (p .0)), small-of (suc k) xs (p .1))
 
-clear-small : (k : ℕ) (xs : List ℕ) (cs : List Condition) → T (clear (outside k xs ++ cs)) → Small xs
-clear-small k xs cs t = in-range-small k xs (first-append (outside k xs) cs (clear-accepted (outside k xs ++ cs) t) .0)
+clear-small : (k : ℕ) (xs : List ℕ) (c : Condition) → T (clear (outside k xs ++ c ∷ [])) → Small xs
+clear-small k xs c t = small-of k xs (both-pass k xs c t .0)
 
 -- a record is its fields
 same-tank : (t : Tank) {d l w p c f : ℕ} → d ≡ t .diameter → l ≡ t .level → w ≡ t .weight → p ≡ t .plate → c ≡ t .allowance → f ≡ t .fy
@@ -328,7 +329,7 @@ all-back [] h = refl
 all-back (c ∷ cs) h =
     let k = and-yes (clear (courseFlaws c)) (coursesClear cs) h in
     ap (λ (y : Course). y ∷ coursesIn (length cs) (fours (coursesFigures cs)))
-    (course-back c (fours (coursesFigures cs)) (clear-small 15 (courseFigures c) (allowanceTooLarge (c .plate) (c .allowance) ∷ []) (k .0)))
+    (course-back c (fours (coursesFigures cs)) (clear-small 15 (courseFigures c) (allowanceTooLarge (c .plate) (c .allowance)) (k .0)))
     ∙ ap (λ (l : List Course). c ∷ l) (all-back cs (k .1))
 
 -- the parts of a layout come back
@@ -398,34 +399,27 @@ module _ (t : Tank) (x : Site) (a : Anchors) (cs : List Course) where
       ∙ ap (λ (y : Anchors). stateTank t ∷ stateSite x ∷ stateAnchors y ∷ fromCourses laid) (anchors-back ha)
       ∙ ap (λ (l : List Course). stateTank t ∷ stateSite x ∷ stateAnchors a ∷ map addCourse l) c
 
--- a site entry that is not blank
-record Placed (e : SiteEntry.SiteEntry) : Type 0 where
-  site : Site
-  is : e ≡ SiteEntry.the-variants.Filled site
-
-placed : (e : SiteEntry.SiteEntry) → siteBlank e ≡ false → Placed e
-placed SiteEntry.the-variants.Blank h = absurd (subst T h tt)
-placed (SiteEntry.the-variants.Filled x) h = record { site = x; is = refl }
-
-bytes-read : (s : Sheet) (d : Held (s .tank)) (p : Placed (s .site)) → T (reachable s) → 1 ≤ s .count → readIn (bytesOf s) ≡ accepted s
+bytes-read : (s : Sheet) (e : Entries) → openedOf s ≡ Opened.the-variants.Complete e → readIn (bytesOf s) ≡ accepted s
 unfolding readIn tankFlaws siteFlaws anchorFlaws
-bytes-read s d p r l =
-    let t = d .tank in
-    let x = p .site in
+bytes-read s e o =
+    let w = whole-sheet s e o in
+    let t = e .tank in
+    let x = e .site in
     let a = s .anchors in
     let cs = held s in
-    let n = held-length s r in
-    let slots = reach-slots s r in
-    let parts = parts-held s r d in
-    let ht = clear-small 1 (tankFigures t) (allowanceTooLarge (t .plate) (t .allowance) ∷ []) (parts .0) in
-    let hx = in-range-small 7 (siteFigures x) (clear-accepted (siteFlaws x) (subst (λ (e : SiteEntry.SiteEntry). T (siteClear e)) (p .is) (parts .1))) in
-    let ha = clear-small 12 (anchorFigures a) ((BadAnchors when badAnchors (t .diameter) a) ∷ []) (parts .2) in
+    let n = held-length s (w .reach) in
+    let slots = reach-slots s (w .reach) in
+    let d : Held (s .tank) = record { tank = t; is = tank-is s e o } in
+    let parts = parts-held s (w .reach) d in
+    let ht = clear-small 1 (tankFigures t) (allowanceTooLarge (t .plate) (t .allowance)) (parts .0) in
+    let hx = small-of 7 (siteFigures x) (all-pass 7 (siteFigures x) (clear-accepted (siteFlaws x) (subst (λ (y : SiteEntry.SiteEntry). T (siteClear y)) (site-is s e o) (parts .1)))) in
+    let ha = clear-small 12 (anchorFigures a) (BadAnchors when badAnchors (t .diameter) a) (parts .2) in
     let few : length cs ≤ 12 = omega (arith, n, slots .few) in
-    ap readIn (bytes-of-parts s t x (d .is) (p .is))
-    ∙ ap (λ (y : Answer). unless y (inTurn emptySheet (stepsIn (layout t x a cs)))) (headed (layout t x a cs) (laid-header t x a cs (omega (arith, n)) few))
+    ap readIn (bytes-of-entries s e o)
+    ∙ ap (λ (y : Answer). unless y (inTurn emptySheet (stepsIn (layout t x a cs)))) (headed (layout t x a cs) (laid-header t x a cs (omega (arith, n, w .course)) few))
     ∙ ap (λ (xs : List Step). inTurn emptySheet xs) (laid-steps t x a cs ht hx ha (slots .clear) few)
-    ∙ ap (λ (e : SiteEntry.SiteEntry). inTurn emptySheet (stepsOf t e a cs)) (sym (p .is))
-    ∙ rebuilt s r d
+    ∙ ap (λ (y : SiteEntry.SiteEntry). inTurn emptySheet (stepsOf t y a cs)) (sym (site-is s e o))
+    ∙ rebuilt s (w .reach) d
 
 -- A COMPLETE SHEET THAT IS WRITTEN AND READ AGAIN IS THE SAME SHEET, whatever the rest of the buffer held
 pub record Back (s : Sheet) (buf : List ℕ) : Type 0 where
@@ -435,14 +429,16 @@ pub record Back (s : Sheet) (buf : List ℕ) : Type 0 where
 pub write-read : (s : Sheet) → T (reachable s) → Complete s → (buf : List ℕ) → wholeLength (s .count) ≤ length buf → Back s buf
 write-read s r c buf l =
     let d = tank-entry-held (s .tank) (c .tank) in
-    let p = placed (s .site) (c .site) in
-    let w = write-done s buf (T-true (reachable s) r) (d .tank) (d .is) (λ z. omega (arith, z, c .course)) (p .site) (p .is) l in
+    let p = site-entry-placed (s .site) (c .site) in
+    let e : Entries = record { tank = d .tank; site = p .site } in
+    let o = open-done s (T-true (reachable s) r) (d .tank) (d .is) (λ z. omega (arith, z, c .course)) (p .site) (p .is) in
+    let w = write-done s buf e o l in
     let n : length (bytesOf s) ≡ wholeLength (s .count)
-    = ap length (bytes-of-parts s (d .tank) (p .site) (d .is) (p .is)) ∙ layout-length (d .tank) (p .site) (s .anchors) (held s) ∙ ap wholeLength (held-length s r) in
+    = ap length (bytes-of-entries s e o) ∙ layout-length (d .tank) (p .site) (s .anchors) (held s) ∙ ap wholeLength (held-length s r) in
     record {
       written-whole = ap (λ (z : WriteReply). z .answer) w;
       read-again =
           ap (λ (z : WriteReply). readIn (take (wholeLength (s .count)) (z .buffer))) w
           ∙ ap readIn (take-at (bytesOf s) (drop (wholeLength (s .count)) buf) (wholeLength (s .count)) n)
-          ∙ bytes-read s d p r (c .course);
+          ∙ bytes-read s e o;
     }

@@ -1,27 +1,30 @@
 -- The laws of writing: what it comes to, by what the sheet holds and how much room there is.
 -- Assumes nothing.
 use mathlib.Core.Path.{_≡_, refl, sym, ap, _∙_}
-use mathlib.Core.Bool.{true, false}
 use mathlib.Core.List.{List, _++_}
 use Prim.Native.Nat.{ℕ, _+_, _≤_, _<_}
 use native.Mathlib.Omega.{arith}
-use lib.Dec.{T}
+use lib.Dec.{ltb}
 use lib.ListN.{length, drop, length-append}
 use lib.Seq.{sets, sets-eq}
-use borrow.Author.Tests.{eq-eqb, ne-eqb, lt-ltb, le-ltb}
+use borrow.Author.Tests.{lt-ltb, le-ltb}
 use Rattle.fields.specs.declared.refusal.Refusal.{Refusal}
-use Rattle.fields.specs.declared.refusal.Refusal.the-variants.{Unreachable, NoTank, NoCourse, NoSite, BufferTooShort}
+use Rattle.fields.specs.declared.refusal.Refusal.the-variants.{BufferTooShort}
+use Rattle.sheet.specs.Order.{Condition, _when_, firstOf}
+use Rattle.sheet.specs.Steps.{openedOf}
 use Rattle.sheet.specs.Sheet.{held}
-use Rattle.sheet.specs.Steps.{reachable}
-use Rattle.sheet.specs.Bytes.{fours, wholeLength, coursesFigures, headerOf, layout, tankOf, siteOf, bytesOf, WriteReply, written}
+use Rattle.sheet.specs.Bytes.{fours, wholeLength, coursesFigures, headerOf, layout, bytesOf, writeOrder, WriteReply, writtenAs, bufferAfter, written}
+use Rattle.sheet.specs.declared.entries.Entries.{Entries}
+use Rattle.sheet.specs.declared.entries.Opened as Opened
+use Rattle.sheet.specs.declared.entries.Answer.{Answer}
+use Rattle.sheet.specs.declared.entries.Answer.the-variants.{Accepted, Refused}
 use Rattle.sheet.specs.declared.entries.Tank.{Tank}
 use Rattle.sheet.specs.declared.entries.Site.{Site}
 use Rattle.sheet.specs.declared.entries.Anchors.{Anchors}
 use Rattle.sheet.specs.declared.entries.Course.{Course}
-use Rattle.sheet.specs.declared.entries.TankEntry as TankEntry
-use Rattle.sheet.specs.declared.entries.SiteEntry as SiteEntry
 use Rattle.sheet.specs.declared.entries.Sheet.{Sheet}
 use Rattle.sheet.specs.declared.entries.Written as Written
+use Rattle.sheet.proofs.OpenLaws.{refused-first, complete-first, entries-are, whole-sheet}
 use Rattle.sheet.proofs.ByteLaws.{sets-append, fours-length, courses-figures-length}
 use Rattle.sheet.proofs.RebuildLaws.{held-length}
 
@@ -32,33 +35,23 @@ abbrev pub done : ℕ → List ℕ → List ℕ → WriteReply
 done n bytes buf = record { answer = Written.the-variants.Bytes (wholeLength n); buffer = bytes ++ drop (wholeLength n) buf }
 
 module _ (s : Sheet) (buf : List ℕ) where
-  pub write-unreachable : reachable s ≡ false → written s buf ≡ denied Unreachable buf
+  answered : {a : Answer} → firstOf (writeOrder s (length buf)) ≡ a
+      → written s buf ≡ record { answer = writtenAs a (wholeLength (s .count)); buffer = bufferAfter a s buf }
   unfolding written
-  write-unreachable r = rw r
+  answered e = ap (λ (a : Answer). record { answer = writtenAs a (wholeLength (s .count)); buffer = bufferAfter a s buf }) e
 
-  module _ (r : reachable s ≡ true) where
-    pub write-no-tank : s .tank ≡ TankEntry.the-variants.Blank → written s buf ≡ denied NoTank buf
-    unfolding written
-    write-no-tank t = rw (r, t)
+  abbrev room : Condition
+  room = BufferTooShort when ltb (length buf) (wholeLength (s .count))
 
-    module _ (d : Tank) (t : s .tank ≡ TankEntry.the-variants.Filled d) where
-      pub write-no-course : s .count ≡ 0 → written s buf ≡ denied NoCourse buf
-      unfolding written
-      write-no-course n = rw (r, t, eq-eqb _ _ n)
+  pub write-refused : {r : Refusal} → openedOf s ≡ Opened.the-variants.Refused r → written s buf ≡ denied r buf
+  write-refused o = answered (refused-first s room o)
 
-      module _ (n : s .count ≡ 0 → ⊥) where
-        pub write-no-site : s .site ≡ SiteEntry.the-variants.Blank → written s buf ≡ denied NoSite buf
-        unfolding written
-        write-no-site x = rw (r, t, ne-eqb _ _ n, x)
+  module _ (e : Entries) (o : openedOf s ≡ Opened.the-variants.Complete e) where
+    pub write-no-room : length buf < wholeLength (s .count) → written s buf ≡ denied BufferTooShort buf
+    write-no-room l = answered {a = Refused BufferTooShort} (complete-first s e o room ∙ rw (lt-ltb _ _ l))
 
-        module _ (y : Site) (x : s .site ≡ SiteEntry.the-variants.Filled y) where
-          pub write-no-room : length buf < wholeLength (s .count) → written s buf ≡ denied BufferTooShort buf
-          unfolding written
-          write-no-room l = rw (r, t, ne-eqb _ _ n, x, lt-ltb _ _ l)
-
-          pub write-done : wholeLength (s .count) ≤ length buf → written s buf ≡ done (s .count) (bytesOf s) buf
-          unfolding written
-          write-done l = rw (r, t, ne-eqb _ _ n, x, le-ltb _ _ l)
+    pub write-done : wholeLength (s .count) ≤ length buf → written s buf ≡ done (s .count) (bytesOf s) buf
+    write-done l = answered {a = Accepted} (complete-first s e o room ∙ rw (le-ltb _ _ l))
 
 -- ---- the stores that leave the bytes
 
@@ -83,22 +76,19 @@ layout-stored t x a cs l h =
     ∙ all-stored l (layout t x a cs) (omega (arith, layout-length t x a cs))
     ∙ ap (λ (i : ℕ). layout t x a cs ++ drop i l) (layout-length t x a cs)
 
--- the bytes of a sheet with tank and site, by its parts
-pub bytes-of-parts : (s : Sheet) (t : Tank) (x : Site) → s .tank ≡ TankEntry.the-variants.Filled t → s .site ≡ SiteEntry.the-variants.Filled x
-    → bytesOf s ≡ layout t x (s .anchors) (held s)
-unfolding bytesOf
-bytes-of-parts s t x e f =
-    ap (λ (d : TankEntry.TankEntry). layout (tankOf d) (siteOf (s .site)) (s .anchors) (held s)) e
-    ∙ ap (λ (d : SiteEntry.SiteEntry). layout t (siteOf d) (s .anchors) (held s)) f
+-- the bytes of a complete sheet, by its entries
+module _ (s : Sheet) (e : Entries) (o : openedOf s ≡ Opened.the-variants.Complete e) where
+  pub bytes-of-entries : bytesOf s ≡ layout (e .tank) (e .site) (s .anchors) (held s)
+  unfolding bytesOf
+  bytes-of-entries = ap (λ (d : Entries). layout (d .tank) (d .site) (s .anchors) (held s)) (entries-are s e o)
 
-pub sheet-stored : (s : Sheet) (t : Tank) (x : Site) → s .tank ≡ TankEntry.the-variants.Filled t → s .site ≡ SiteEntry.the-variants.Filled x
-    → T (reachable s) → (l : List ℕ) {o p : List ℕ} → wholeLength (s .count) ≤ length l
-    → o ≡ sets l 0 (headerOf t x (s .anchors) (s .count)) → p ≡ sets o 60 (fours (coursesFigures (held s)))
-    → p ≡ bytesOf s ++ drop (wholeLength (s .count)) l
-sheet-stored s t x e f r l h i j =
-    let n = held-length s r in
-    j
-    ∙ ap (λ (z : List ℕ). sets z 60 (fours (coursesFigures (held s)))) (i ∙ ap (λ (k : ℕ). sets l 0 (headerOf t x (s .anchors) k)) (sym n))
-    ∙ layout-stored t x (s .anchors) (held s) l (omega (arith, n))
-    ∙ ap (λ (z : List ℕ). z ++ drop (wholeLength (length (held s))) l) (sym (bytes-of-parts s t x e f))
-    ∙ ap (λ (k : ℕ). bytesOf s ++ drop (wholeLength k) l) n
+  pub sheet-stored : (l : List ℕ) {p q : List ℕ} → wholeLength (s .count) ≤ length l
+      → p ≡ sets l 0 (headerOf (e .tank) (e .site) (s .anchors) (s .count)) → q ≡ sets p 60 (fours (coursesFigures (held s)))
+      → q ≡ bytesOf s ++ drop (wholeLength (s .count)) l
+  sheet-stored l h i j =
+      let n = held-length s (whole-sheet s e o .reach) in
+      j
+      ∙ ap (λ (z : List ℕ). sets z 60 (fours (coursesFigures (held s)))) (i ∙ ap (λ (k : ℕ). sets l 0 (headerOf (e .tank) (e .site) (s .anchors) k)) (sym n))
+      ∙ layout-stored (e .tank) (e .site) (s .anchors) (held s) l (omega (arith, n))
+      ∙ ap (λ (z : List ℕ). z ++ drop (wholeLength (length (held s))) l) (sym bytes-of-entries)
+      ∙ ap (λ (k : ℕ). bytesOf s ++ drop (wholeLength k) l) n

@@ -9,7 +9,7 @@ use Rattle.fields.specs.Refusal.{plain, paperOf}
 use Rattle.fields.specs.declared.refusal.Paper.{Paper}
 use Rattle.fields.specs.declared.refusal.Refusal.the-variants.{TooFewBytes, TooManyBytes, BadLength, BadVersion, BadCount, BufferTooShort}
 use Rattle.sheet.specs.Order.{Condition, _when_, firstOf, firstPaper}
-use Rattle.sheet.specs.Sheet.{tankFigures, siteFigures, anchorFigures, courseFigures, emptySheet, held}
+use Rattle.sheet.specs.Sheet.{tankFigures, siteFigures, anchorFigures, courseFigures, emptySheet, held, tankOf, siteOf}
 use Rattle.sheet.specs.Steps.{Step, stateTank, stateSite, stateAnchors, addCourse, tankBlank, siteBlank, orderOf, taken, unreachable, incomplete, unless, inTurn}
 use Rattle.sheet.specs.declared.entries.Tank.{Tank}
 use Rattle.sheet.specs.declared.entries.Site.{Site}
@@ -61,15 +61,6 @@ headerOf t x a n = two (bodyLength n) ++ 1 ∷ (fours (tankFigures t) ++ fours (
 
 abbrev pub layout : Tank → Site → Anchors → List Course → List ℕ
 layout t x a cs = headerOf t x a (length cs) ++ fours (coursesFigures cs)
-
--- A tank or site that is blank counts as zeros here; neither is ever written.
-abbrev pub tankOf : TankEntry.TankEntry → Tank
-tankOf TankEntry.the-variants.Blank = record { diameter = 0; level = 0; weight = 0; plate = 0; allowance = 0; fy = 0 }
-tankOf (TankEntry.the-variants.Filled t) = t
-
-abbrev pub siteOf : SiteEntry.SiteEntry → Site
-siteOf SiteEntry.the-variants.Blank = record { wind = 0; exposure = 0; importance = 0; vertical = 0; moment = 0 }
-siteOf (SiteEntry.the-variants.Filled x) = x
 
 unfoldable pub bytesOf : Sheet → List ℕ
 bytesOf s = layout (tankOf (s .tank)) (siteOf (s .site)) (s .anchors) (held s)

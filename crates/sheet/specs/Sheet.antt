@@ -54,6 +54,15 @@ abbrev pub heightOf : List Course → ℕ
 heightOf [] = 0
 heightOf (c ∷ cs) = c .width + heightOf cs
 
+-- the tank and the site of a sheet that is written or judged; one that lacks them is refused, and these zeros are not looked at
+abbrev pub tankOf : TankEntry.TankEntry → Tank
+tankOf TankEntry.the-variants.Blank = record { diameter = 0; level = 0; weight = 0; plate = 0; allowance = 0; fy = 0 }
+tankOf (TankEntry.the-variants.Filled t) = t
+
+abbrev pub siteOf : SiteEntry.SiteEntry → Site
+siteOf SiteEntry.the-variants.Blank = record { wind = 0; exposure = 0; importance = 0; vertical = 0; moment = 0 }
+siteOf (SiteEntry.the-variants.Filled x) = x
+
 -- 17: "allowance not less than plate (bottom or course)", so plate at most allowance
 abbrev pub allowanceTooLarge : ℕ → ℕ → Condition
 allowanceTooLarge plate allowance = AllowanceNotBelowPlate when leb plate allowance

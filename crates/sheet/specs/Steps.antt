@@ -9,7 +9,7 @@ use lib.ListN.{length, take, drop, set}
 use Rattle.fields.specs.declared.refusal.Refusal.{Refusal}
 use Rattle.fields.specs.declared.refusal.Refusal.the-variants.{Unreachable, TankStated, NoTank, CoursesFull, NoCourse, NoSite}
 use Rattle.sheet.specs.Order.{Condition, _when_, firstOf, clear}
-use Rattle.sheet.specs.Sheet.{tooHigh, emptySheet, held, heightOf, tankFlaws, siteFlaws, anchorFlaws, courseFlaws, anchorFigures, courseFigures}
+use Rattle.sheet.specs.Sheet.{tooHigh, emptySheet, held, heightOf, tankFlaws, siteFlaws, anchorFlaws, courseFlaws, anchorFigures, courseFigures, tankOf, siteOf}
 use Rattle.sheet.specs.declared.entries.Tank.{Tank}
 use Rattle.sheet.specs.declared.entries.Site.{Site}
 use Rattle.sheet.specs.declared.entries.Anchors.{Anchors}
@@ -19,6 +19,8 @@ use Rattle.sheet.specs.declared.entries.SiteEntry as SiteEntry
 use Rattle.sheet.specs.declared.entries.Sheet.{Sheet}
 use Rattle.sheet.specs.declared.entries.Answer.{Answer}
 use Rattle.sheet.specs.declared.entries.Answer.the-variants.{Accepted, Refused}
+use Rattle.sheet.specs.declared.entries.Entries.{Entries}
+use Rattle.sheet.specs.declared.entries.Opened as Opened
 use Rattle.sheet.specs.declared.entries.Reply.{Reply}
 
 pub data Step : Type 0 where
@@ -130,6 +132,17 @@ unreachable s = Unreachable when not (reachable s)
 abbrev pub incomplete : Sheet → List Condition
 incomplete s =
     (NoTank when tankBlank (s .tank)) ∷ (NoCourse when eqb (s .count) 0) ∷ (NoSite when siteBlank (s .site)) ∷ []
+
+-- the answer to these, and the tank and site of a sheet that is complete
+abbrev pub entriesOf : Sheet → Entries
+entriesOf s = record { tank = tankOf (s .tank); site = siteOf (s .site) }
+
+abbrev pub openedAs : Answer → Entries → Opened.Opened
+openedAs Accepted e = Opened.the-variants.Complete e
+openedAs (Refused r) e = Opened.the-variants.Refused r
+
+unfoldable pub openedOf : Sheet → Opened.Opened
+openedOf s = openedAs (firstOf (unreachable s ∷ incomplete s)) (entriesOf s)
 
 -- A step on a sheet that is handed in: 30 first, then its own order.
 unfoldable pub stated : Sheet → Step → Reply

@@ -76,6 +76,18 @@ pub enum Written {
     Refused(Refusal),
 }
 
+// What a complete sheet has beside its courses and anchors.
+pub struct Entries {
+    pub tank: Tank,
+    pub site: Site,
+}
+
+// The answer to what judging and writing ask first: why the sheet is not complete, or its entries.
+pub enum Opened {
+    Refused(Refusal),
+    Complete(Entries),
+}
+
 // The answer to a step, or to reading, and the sheet after it.
 pub struct Reply {
     pub answer: Answer,

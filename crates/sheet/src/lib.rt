@@ -2,6 +2,7 @@
 // value and comes back by value; nothing here knows the rules.
 pub mod entries;
 mod flaws;
+pub mod opening;
 pub mod reach;
 pub mod reading;
 pub mod steps;

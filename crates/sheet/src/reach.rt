@@ -6,7 +6,7 @@ ghost use Prim.Native.Nat.{_≤_};
 ghost use lib.Dec.{T};
 ghost use lib.ListN.{take, drop};
 ghost use Rattle.sheet.specs.Order.{accepts};
-ghost use Rattle.sheet.specs.Sheet.{heightOf};
+ghost use Rattle.sheet.specs.Sheet.{heightOf, held};
 ghost use Rattle.sheet.specs.Steps.{LeftByRun, blank, siteClear, coursesClear, coursesBlank, slotsReachable, partsReachable, reachable};
 use crate::entries::Anchors;
 use crate::entries::Answer;
@@ -157,4 +157,22 @@ fn is_blank(figures: &[u32]) -> bool
         i += 1;
     }
     true
+}
+
+// Hs, the height of the courses held.
+pub fn shell_height(s: Sheet) -> u64
+    ensures { λ r. ⌜ r ≡ heightOf (held s) ⌝ }
+{
+    let courses = s.courses;
+    height_of_first(courses, s.count)
+}
+
+// The same as `height` for a count that may be past the slots.
+fn height_of_first(courses: [Course; 12], n: usize) -> u64
+    ensures { λ r. ⌜ r ≡ heightOf (take n courses) ⌝ }
+{
+    if MOST_COURSES < n {
+        return height(courses, MOST_COURSES);
+    }
+    height(courses, n)
 }

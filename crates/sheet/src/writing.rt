@@ -4,16 +4,17 @@ ghost use mathlib.Core.Path.{_≡_};
 ghost use Prim.Native.Nat.{_+_, _*_, _≤_};
 ghost use lib.ListN.{length, take};
 ghost use lib.Seq.{sets};
+ghost use Rattle.sheet.specs.Steps.{openedOf};
 ghost use Rattle.sheet.specs.Bytes.{four, fours, wholeLength, coursesFigures, headerOf, written, writePaper, writtenPaper};
 use crate::entries::Anchors;
 use crate::entries::Course;
+use crate::entries::Entries;
+use crate::entries::Opened;
 use crate::entries::Sheet;
 use crate::entries::Site;
-use crate::entries::SiteEntry;
 use crate::entries::Tank;
-use crate::entries::TankEntry;
 use crate::entries::Written;
-use crate::reach;
+use crate::opening;
 use fields::Refusal;
 
 // Fills the first 60 + 20 × n bytes, and gives that number. Refused: 30, 32, 35, 36, 19.
@@ -22,24 +23,26 @@ pub fn write(s: Sheet, out: &mut [u8]) -> Written
     ensures { λ r. ⌜ now (out .exit) ≡ written s (now (out .entry)) .buffer ⌝ }
     ensures { λ r. ⌜ writePaper r ≡ writtenPaper s (length (now (out .entry))) ⌝ }
 {
-    if !reach::is_reachable(s) {
-        return Written::Refused(Refusal::Unreachable);
+    let opened = opening::opened(s);
+    match opened {
+        Opened::Refused(refusal) => Written::Refused(refusal),
+        Opened::Complete(entries) => write_complete(s, entries, out),
     }
-    let tank_entry = s.tank;
-    let TankEntry::Filled(tank) = tank_entry else {
-        return Written::Refused(Refusal::NoTank);
-    };
+}
+
+// The same of a complete sheet with these entries.
+fn write_complete(s: Sheet, entries: Entries, out: &mut [u8]) -> Written
+    requires { ⌜ openedOf s ≡ Opened.Complete entries ⌝ }
+    ensures { λ r. ⌜ r ≡ written s (now (out .entry)) .answer ⌝ }
+    ensures { λ r. ⌜ now (out .exit) ≡ written s (now (out .entry)) .buffer ⌝ }
+    ensures { λ r. ⌜ writePaper r ≡ writtenPaper s (length (now (out .entry))) ⌝ }
+{
     let n = s.count;
-    if n == 0 {
-        return Written::Refused(Refusal::NoCourse);
-    }
-    let site_entry = s.site;
-    let SiteEntry::Filled(site) = site_entry else {
-        return Written::Refused(Refusal::NoSite);
-    };
     if out.len() < 60 + 20 * n {
         return Written::Refused(Refusal::BufferTooShort);
     }
+    let tank = entries.tank;
+    let site = entries.site;
     let anchors = s.anchors;
     let courses = s.courses;
     put_header(out, tank, site, anchors, n);

@@ -1,0 +1,13 @@
+// A float as its bits.
+ghost use mathlib.Core.Path.{_≡_};
+ghost use lib.Ieee.{binary64, toBits};
+
+// The 64-bit pattern of a float. Which one a NaN has the language leaves open: it is the kit's here.
+pub fn bits(x: f64) -> u64
+    ensures { λ r. ⌜ r ≡ toBits binary64 x ⌝ }
+{
+    if x != x {
+        return 0x7ff8000000000000;
+    }
+    f64::to_bits(x)
+}

@@ -1,0 +1,7 @@
+-- The laws that callers' proofs cite.
+pub mod FigureLaws
+pub mod LineLaws
+pub mod JudgeLaws
+pub mod MeetsLaws
+pub mod ClaimLaws
+pub mod Cases

@@ -1,0 +1,70 @@
+// The courses' lines of a report, and whether they all hold.
+ghost use mathlib.Core.Path.{_≡_};
+ghost use Prim.Native.Nat.{_≤_};
+ghost use lib.Dec.{T};
+ghost use lib.ListN.{take};
+ghost use Rattle.rules.specs.Bounds.{mostHeight};
+ghost use Rattle.sheet.specs.Order.{clear};
+ghost use Rattle.sheet.specs.Sheet.{heightOf, tankFlaws, courseFlaws};
+ghost use Rattle.sheet.specs.Steps.{coursesClear};
+ghost use Rattle.judge.specs.Report.{lineOf, linesOf, padded, coursesHold};
+use crate::report::CourseLine;
+use rules::hoop;
+use sheet::entries::Course;
+use sheet::entries::Tank;
+
+// The line of a course whose bottom edge is at this height.
+fn line(tank: Tank, edge: u32, c: Course) -> CourseLine
+    requires { ⌜ T (clear (tankFlaws tank)) ⌝ }
+    requires { ⌜ T (clear (courseFlaws c)) ⌝ }
+    ensures { λ r. ⌜ r ≡ lineOf tank edge c ⌝ }
+{
+    let h = hoop::head(tank.level, edge);
+    let need = hoop::need(h, tank.diameter, c.stress, c.efficiency);
+    let required = hoop::required(need, c.allowance, tank.diameter);
+    let verdict = hoop::check(required, c.plate);
+    CourseLine {
+        need,
+        required,
+        plate: c.plate,
+        verdict,
+    }
+}
+
+// The lines of the first n courses, and blank ones.
+pub(crate) fn lines(tank: Tank, courses: [Course; 12], n: usize) -> [CourseLine; 12]
+    requires { ⌜ n ≤ 12 ⌝ }
+    requires { ⌜ T (clear (tankFlaws tank)) ⌝ }
+    requires { ⌜ T (coursesClear (take n courses)) ⌝ }
+    requires { ⌜ heightOf (take n courses) ≤ mostHeight ⌝ }
+    ensures { λ r. ⌜ r ≡ padded (linesOf tank 0 (take n courses)) ⌝ }
+{
+    let blank = CourseLine::blank();
+    let mut all = [blank; 12];
+    let mut edge: u32 = 0;
+    let mut i: usize = 0;
+    while i < n {
+        let c = courses[i];
+        all[i] = line(tank, edge, c);
+        edge += c.width;
+        i += 1;
+    }
+    all
+}
+
+// Whether the first n courses hold.
+pub(crate) fn all_hold(lines: [CourseLine; 12], n: usize) -> bool
+    requires { ⌜ n ≤ 12 ⌝ }
+    ensures { λ r. ⌜ r ≡ coursesHold (take n lines) ⌝ }
+{
+    let mut i: usize = 0;
+    while i < n {
+        let l = lines[i];
+        let verdict = l.verdict;
+        if !verdict.holds() {
+            return false;
+        }
+        i += 1;
+    }
+    true
+}

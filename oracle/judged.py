@@ -1,0 +1,858 @@
+"""The judging vectors: sheets handed in for judging, in named groups.
+
+A record is one of two: READ, bytes to be read and judged, or FORGE, a sheet built by hand and
+judged as it is (to the program they are MARK and JUDGE). Its line is the answer and then the report, which beside a refusal is one
+stated value. A group yields cases: a case is the records by which one sheet is handed in, and
+`sound`, `short` and `refused` also say, by hand, what the answer to each of them is to be.
+`python3 oracle groups` lists the records, and so the lines, of each group.
+"""
+
+from collections import Counter
+from functools import cache
+from itertools import product
+from random import Random
+from typing import NamedTuple
+
+import document as doc
+import judging
+import near
+import scripts
+import sheet as model
+from judging import FULL_HEADS
+from leaves import beside, hexadecimal, verdict_text
+from records import FORGE, READ, answer_word, forge, forged, read, refusal_word
+from scripts import (
+    U32_MOST, courses_to, first_of, just_outside, subsets, widths_to, with_field, with_slot,
+)
+
+LEAST_RANDOM_SHEETS = 2_000
+
+# --- Lines --------------------------------------------------------------------
+
+
+def standing_text(standing):
+    first, second = map(verdict_text, standing.rules().values())
+    if isinstance(standing, judging.Anchored):
+        return f"anchored {standing.wind_pull} {standing.earthquake_pull} {first} {second}"
+    return f"self {first} {standing.T} {standing.lift} {second}"
+
+
+def course_text(course):
+    return f"| {course.need} {course.required} {course.t} {verdict_text(course.verdict)}"
+
+
+def report_text(report):
+    blanks = ["."] * (doc.MOST_COURSES - len(report.courses))
+    uses = map(hexadecimal, judging.uses(report))
+    return " ".join([judging.word(report), f"wind {report.p} {report.M}",
+                     standing_text(report.standing), "uses", *uses,
+                     f"courses {len(report.courses)}", *map(course_text, report.courses), *blanks])
+
+
+NO_REPORT_TEXT = report_text(judging.NO_REPORT)
+
+
+class Outcome(NamedTuple):
+    sheet: model.Sheet          # the one judged; where reading refuses, the empty one
+    refusal: tuple | None
+    report: judging.Report
+
+    def word(self):
+        return "refused" if self.refusal is not None else judging.word(self.report)
+
+    def line(self):
+        return f"{answer_word(self.refusal, 'accepted')} {report_text(self.report)}"
+
+
+@cache
+def outcome(record):
+    """From bytes: read first, whose refusal is the answer, then judge."""
+    if record.opcode == READ:
+        refusal, sheet = model.read(record.payload)
+        if refusal is not None:
+            return Outcome(sheet, refusal, judging.NO_REPORT)
+    else:
+        sheet = forged(model.bytes_as_figures(record.payload))
+    return Outcome(sheet, *judging.judge(sheet))
+
+
+# --- Making cases -------------------------------------------------------------
+
+
+def handed_in(sheet):
+    """A complete sheet, as bytes and as it is."""
+    return read(model.sheet_as_bytes(sheet)), forge(sheet)
+
+
+def has_part(line, part):
+    """Whole words of it."""
+    return f" {part} " in f" {line} "
+
+
+def reported(sheet, short_rules, shows):
+    records = handed_in(sheet)
+    for record in records:
+        result = outcome(record)
+        assert result.refusal is None, result
+        assert judging.short_rules(result.report) == short_rules, (short_rules, result)
+        assert not shows or has_part(result.line(), shows), (shows, result.line())
+    return records
+
+
+def sound(sheet, shows=""):
+    """The sheet, every check of which holds; its line has this part."""
+    return reported(sheet, [], shows)
+
+
+def short(sheet, *rules, shows=""):
+    """The sheet, of whose checks these and no other fall short."""
+    return reported(sheet, list(rules), shows)
+
+
+def sound_if(holds, sheet, *rules, shows=""):
+    return sound(sheet, shows) if holds else short(sheet, *rules, shows=shows)
+
+
+def refused(word, *records):
+    for record in records:
+        line = outcome(record).line()
+        assert line == f"{word} {NO_REPORT_TEXT}", (word, line)
+    return records
+
+
+LETTERS = ("D", "H", "W", "plate", "allowance", "Fy", "V", "Kz", "I", "Av", "Ms", "N", "B", "d",
+           "width", "t", "c", "s", "E")
+FIELD_OF = dict(zip(LETTERS, doc.FIELD_RANGES, strict=True))
+
+
+def with_figure(sheet, field, figure):
+    """A course's field is set in every course held."""
+    if field in doc.TANK_FIELDS:
+        return sheet._replace(tank=with_field(sheet.tank, field, figure))
+    if field in doc.SITE_FIELDS:
+        return sheet._replace(site=with_field(sheet.site, field, figure))
+    if field in doc.ANCHOR_FIELDS:
+        return sheet._replace(anchors=with_field(sheet.anchors, field, figure))
+    for place in range(sheet.count):
+        sheet = with_course_figure(sheet, place, field, figure)
+    return sheet
+
+
+def with_course_figure(sheet, place, field, figure):
+    return with_slot(sheet, place, with_field(sheet.courses[place], field, figure))
+
+
+def changed(sheet, **figures):
+    """The sheet with other figures for these letters."""
+    for letter, figure in figures.items():
+        sheet = with_figure(sheet, FIELD_OF[letter], figure)
+    return sheet
+
+
+def course_changed(sheet, place, **figures):
+    """The same in one course, numbered from 1."""
+    for letter, figure in figures.items():
+        sheet = with_course_figure(sheet, place - 1, FIELD_OF[letter], figure)
+    return sheet
+
+
+def with_courses(sheet, courses):
+    return model.held(sheet.tank, sheet.site, sheet.anchors, courses)
+
+
+def with_widths(sheet, widths):
+    """As many courses like the first one."""
+    return with_courses(sheet, [with_field(sheet.courses[0], 15, width) for width in widths])
+
+
+def self_anchored(sheet):
+    return sheet._replace(anchors=model.SELF_ANCHORED)
+
+
+# --- Sheets that the groups start from ----------------------------------------
+
+EXAMPLE = model.EXAMPLE
+SELF = changed(self_anchored(EXAMPLE), W=18_345)        # sound; T is 122,400
+
+# Nothing is rounded in wt, wL and T: T is 94,000 with wL by its cap, 64,400 by its root.
+WHOLE_BY_CAP = changed(SELF, D=12_000, W=19_880, V=96, Av=0)
+WHOLE_BY_ROOT = changed(WHOLE_BY_CAP, H=10_000, W=17_750, plate=120, allowance=100, Fy=30_000)
+
+# 4,800 moment / B is moment / 3, and M is 62,208, nothing rounded.
+THIRDS = changed(EXAMPLE, V=96, B=14_400)
+
+# The same with Hs 76,800 and p 4,500, nothing rounded.
+TALL_THIRDS = changed(with_widths(EXAMPLE, [9_600] * 8), H=9_600, V=125, Kz=150, I=125, B=14_400)
+TALL_MOMENT = 1_105_920
+
+LIGHT = changed(EXAMPLE, W=100, V=137, d=6)     # the wind pull is 6,735; the bolts bear 6,663
+
+# --- Groups: document 01's example and cases ----------------------------------
+
+
+def example_cases():
+    yield sound(EXAMPLE, "wind 2123 73371 anchored 2133 -211")
+    yield sound(changed(EXAMPLE, V=96), "wind 1800 62208")
+    yield sound(changed(EXAMPLE, V=97), "wind 1812 62623")
+    yield sound(changed(EXAMPLE, B=22_918))
+    yield short(changed(EXAMPLE, B=22_919), "spacing")
+    standing = self_anchored(EXAMPLE)
+    for Ms, lift in ((30_000, "none"), (74_297, "none"), (74_298, "lift"), (145_754, "lift")):
+        yield short(changed(standing, Ms=Ms), "wind", shows=f"94646 {lift} holds")
+    yield short(changed(standing, Ms=145_755), "wind", "earthquake", shows="94646 over short")
+    yield short(changed(standing, W=18_342), "wind")
+    yield sound(changed(standing, W=18_343))
+    yield short(changed(standing, D=60_000), "wind", shows="| 164 188 250 holds")
+    yield short(changed(standing, D=60_001), "wind", shows="| 164 250 250 holds")
+    yield refused("refused 37", *handed_in(changed(EXAMPLE, H=28_801)))
+    thirteen = model.as_bytes(*EXAMPLE[:3], [EXAMPLE.courses[0]] * 13)
+    yield refused("refused 13", read(thirteen))
+    yield refused("refused 30", forge(with_widths(EXAMPLE, [5_900] * 12)._replace(count=13)))
+
+
+def readings_astray():
+    """Sheets on which each of the four wrong readings would show, in the word too."""
+    # the need of course 1 is 260: h to mid-course makes it 228, one foot higher 250
+    assert doc.hoop_need(30_600 - 7_650 // 2, 60_000, 15_000, 85) == 228
+    assert doc.hoop_need(30_600 - 1_200, 60_000, 15_000, 85) == 250
+    for t, holds in ((228, False), (250, False), (259, False), (260, True)):
+        yield sound_if(holds, course_changed(FULL_HEADS, 1, t=t), "course 1",
+                       shows=f"| 260 260 {t}")
+    # the floor with the allowance would be 238
+    yield sound(changed(EXAMPLE, t=188, c=50), "| 59 188 188 holds")
+    yield sound(changed(EXAMPLE, t=188, c=129), "| 59 188 188 holds")
+    yield short(changed(EXAMPLE, t=188, c=130), "course 1", shows="| 59 189 188 short")
+    # T with wL uncapped would be 333,669
+    assert doc.resistance(14_400, doc.shell_weight_on_rim(18_345, 27, 14_400), 183_579) == 333_669
+    yield sound(SELF, "122400 none")
+    yield sound(changed(SELF, Ms=150_000), "122400 lift")
+    yield short(changed(SELF, Ms=200_000), "earthquake", shows="122400 over")
+    # cut toward zero these would be 12,089, which the bolts bear, 0 and 2,132
+    yield short(changed(EXAMPLE, Ms=257_564), "strength", shows="2133 12090")
+    yield sound(changed(EXAMPLE, Ms=33_917), "2133 1")
+    yield sound(EXAMPLE, "2133 -211")
+
+
+# --- Groups: refusals ---------------------------------------------------------
+
+
+def judge_order():
+    """Each subset of the refusals that a sheet can have. Without 30 a sheet without a tank is
+    the empty one, which has no course and no site either, nor an H for 37. A sheet without a
+    course has H above Hs, so that 35 comes with 37."""
+    words = {number: f"refused {number}" for number in (30, 32, 35, 36, 37)}
+    for present in subsets(tuple(words)):
+        without_tank = 32 in present
+        if without_tank and (37 in present or 30 not in present and not {35, 36} <= set(present)):
+            continue
+        if not without_tank and 35 in present and 37 not in present:
+            continue
+        tank = with_field(EXAMPLE.tank, 2, 28_801) if 37 in present else EXAMPLE.tank
+        sheet = model.held(None if without_tank else tank,
+                           None if 36 in present else EXAMPLE.site,
+                           (0, 0, 1) if 30 in present else model.SELF_ANCHORED,
+                           () if 35 in present else EXAMPLE.courses[:3])
+        if present:
+            yield refused(first_of(words, present, ""), forge(sheet))
+        else:
+            yield short(sheet, "wind")
+
+
+def incomplete():
+    """Steps that leave a sheet without a part; anchors unstated and N = 0 are the same."""
+    yield refused("refused 32", forge(model.EMPTY))
+    for anchors in (model.SELF_ANCHORED, EXAMPLE.anchors):
+        for n in (1, 3):
+            no_site = model.held(EXAMPLE.tank, None, anchors, EXAMPLE.courses[:n])
+            yield refused("refused 36", forge(no_site))
+        yield refused("refused 35", forge(model.held(EXAMPLE.tank, EXAMPLE.site, anchors, ())))
+        yield refused("refused 35", forge(model.held(EXAMPLE.tank, None, anchors, ())))
+
+
+def broken_slots():
+    """30 by a slot alone, and with each of the later refusals."""
+    tank_only = model.held(EXAMPLE.tank, None, model.SELF_ANCHORED, ())
+    for sheet in (EXAMPLE, changed(EXAMPLE, H=28_801), EXAMPLE._replace(site=None),
+                  tank_only, tank_only._replace(site=EXAMPLE.site), model.EMPTY):
+        for place in (sheet.count, 11):         # slots that are to be blank
+            for figures in (EXAMPLE.courses[0], (0, 0, 0, 0, 1), (1, 0, 0, 0, 0)):
+                yield refused("refused 30", forge(with_slot(sheet, place, figures)))
+    for place in range(3):
+        hole = with_slot(EXAMPLE, place, model.NO_COURSE)
+        yield refused("refused 30", forge(hole))
+        yield refused("refused 37" if place == 2 else "refused 30", forge(hole._replace(count=2)))
+
+
+def blank_slot_rubbish():
+    for place, field in product(range(3, doc.MOST_COURSES), doc.COURSE_FIELDS):
+        rubbish = (1, 7, doc.FIELD_RANGES[field][1], U32_MOST)[(place + field) % 4]
+        figures = with_field(model.NO_COURSE, field, rubbish)
+        yield refused("refused 30", forge(with_slot(EXAMPLE, place, figures)))
+
+
+def counts_astray():
+    """Too large or too small, also such as a narrower number takes for right."""
+    twelve = with_widths(EXAMPLE, [6_400] * 12)
+    for count in (0, 11, 13, 14, 255, 256 + 12, 2**16 + 12, 2**31 + 12, U32_MOST):
+        yield refused("refused 30", forge(twelve._replace(count=count)))
+    for count in (0, 2, 4, 12, 13, 256 + 3, 2**16 + 3, 2**31 + 3, U32_MOST):
+        yield refused("refused 30", forge(EXAMPLE._replace(count=count)))
+    for count in (1, 12, 13, U32_MOST):
+        yield refused("refused 30", forge(model.EMPTY._replace(count=count)))
+
+
+def openings(*groups):
+    """The scripts of these groups open with the sheet or the bytes that they are about."""
+    return [script[:1] for group in groups for script in group()]
+
+
+def forged_as_in_scripts():
+    """Every kind of sheet that no run of steps leaves, and some beside them that a run does."""
+    return openings(scripts.forged_figures, scripts.forged_without_tank, scripts.forged_heights,
+                    scripts.forged_anchors, scripts.forged_allowances, scripts.forged_huge)
+
+
+def left_by_a_run():
+    """Built by hand, complete or not, and never refused 30."""
+    cases = openings(scripts.forged_ends_taken, scripts.forged_parts_taken)
+    assert all(outcome(record).refusal != (30, 0) for (record,) in cases)
+    return cases
+
+
+def reading_singly():
+    """Each refusal of reading; 11 to 15, then those of the steps."""
+    for damage in scripts.BYTES_ORDER:
+        word, _change = damage
+        yield refused(word, scripts.damaged((damage,)))
+
+
+def reading_as_in_scripts():
+    """11 to 18 and 34, and beside them what reading accepts."""
+    return openings(scripts.bytes_order_all_at_once, scripts.longer_bytes,
+                    scripts.length_of_no_sheet, scripts.versions, scripts.anchors_in_bytes,
+                    scripts.steps_in_bytes, scripts.heights_in_bytes, scripts.everything_small)
+
+
+def reading_before_judging():
+    """H above Hs as well: what reading refuses goes before 37."""
+    high = changed(EXAMPLE, H=28_801)
+    content = model.sheet_as_bytes(high)
+    yield refused("refused 37", read(content))
+    for length in (0, 1, 2, 60, len(content) - 1):
+        yield refused("refused 11", read(content[:length]))
+    yield refused("refused 12", read(content + b"\0"))
+    yield refused("refused 13", read(b"\0\x77" + content[2:] + b"\0"))
+    yield refused("refused 14", read(content[:2] + b"\0" + content[3:]))
+    yield refused("refused 15", read(content[:59] + b"\2" + content[60:]))
+    for field in doc.FIELD_RANGES:
+        for figure in just_outside(field):
+            outside = with_figure(changed(EXAMPLE, H=76_800), field, figure)
+            yield refused(refusal_word(doc.FIELD_REFUSAL, field),
+                          read(model.sheet_as_bytes(outside)))
+    for wrong in (changed(high, allowance=250), course_changed(high, 3, c=250)):
+        yield refused("refused 17", read(model.sheet_as_bytes(wrong)))
+    for anchors in ((6, 14_399, 8), (6, 14_400, 13), (0, 14_400, 0), (0, 0, 8)):
+        wrong = high._replace(anchors=anchors)
+        yield refused("refused 18", read(model.sheet_as_bytes(wrong)))
+    wrong = with_widths(changed(EXAMPLE, H=76_800), widths_to(76_801, 8))
+    yield refused("refused 34", read(model.sheet_as_bytes(wrong)))
+
+
+# --- Groups: each verdict at equality, and one past it on both sides ----------
+
+
+def course_at_equality():
+    """Required is t: by the need with c, whole and rounded up, and by the floor."""
+    yield sound(FULL_HEADS, "| 260 260 260 holds 3ff0000000000000")
+    for number in range(1, 5):
+        for t in (259, 260, 261):
+            yield sound_if(t >= 260, course_changed(FULL_HEADS, number, t=t), f"course {number}")
+        _width, _t, c, _s, _E = FULL_HEADS.courses[number - 1]
+        for allowance in beside(c):
+            if allowance >= 0:
+                sheet = course_changed(FULL_HEADS, number, c=allowance)
+                yield sound_if(allowance <= c, sheet, f"course {number}")
+        for letter, least in (("s", 15_000), ("E", 85)):
+            for figure in beside(least):
+                sheet = course_changed(FULL_HEADS, number, **{letter: figure})
+                yield sound_if(figure >= least, sheet, f"course {number}")
+    every = [f"course {number}" for number in range(1, 5)]
+    higher = course_changed(FULL_HEADS, 4, width=9_600)
+    for H in (30_599, 30_600, 30_601):      # 259.99.. is rounded up
+        yield sound_if(H <= 30_600, changed(higher, H=H, W=30_000), *every)
+    for D in beside(60_000):
+        yield sound_if(D <= 60_000, changed(FULL_HEADS, D=D), *every)
+    for c in beside(129):       # the need of 59 with c, beside the floor
+        yield sound_if(c <= 129, changed(EXAMPLE, t=188, c=c), "course 1")
+
+
+def self_wind_at_equality():
+    """3,600 M is W D, with M whole (V 96) and rounded up from 74,787.84 (V 106)."""
+    for V, W in ((96, 15_552), (106, 18_697)):
+        for weight in beside(W):
+            yield sound_if(weight >= W, changed(SELF, V=V, W=weight), "wind")
+        # the exact sides both grow with D: M rounded up makes the difference
+        for D in (14_399, 14_401):
+            yield short(changed(SELF, V=V, W=W, D=D), "wind")
+    wide = changed(with_widths(SELF, [9_600] * 5), D=36_000, V=96, t=400)
+    for W in beside(43_200):
+        yield sound_if(W >= 43_200, changed(wide, W=W), "wind")
+
+
+def self_earthquake_at_equality():
+    """1,000 Ms is 1,540 T, which takes a T that 50 divides: a rounded one, and two whole ones,
+    with wL by its cap and by its root."""
+    for sheet, T in ((SELF, 122_400), (WHOLE_BY_CAP, 94_000), (WHOLE_BY_ROOT, 64_400)):
+        equal = 77 * T // 50
+        for Ms in beside(equal):
+            yield sound_if(Ms <= equal, changed(sheet, Ms=Ms), "earthquake",
+                           shows=f"{T} {'lift holds' if Ms <= equal else 'over short'}")
+        W, Av = sheet.tank[2], sheet.site[3]
+        for weight in beside(W):
+            yield sound_if(weight >= W, changed(sheet, Ms=equal, W=weight), "earthquake")
+        for acceleration in beside(Av):
+            if acceleration >= 0:
+                near_it = changed(sheet, Ms=equal, Av=acceleration)
+                yield sound_if(acceleration <= Av, near_it, "earthquake")
+
+
+def spacing_at_equality():
+    """355 B is 1,356,000 N at one point in the ranges: N 71 with B 271,200."""
+    for D in (14_400, 240_000):
+        wide = changed(EXAMPLE, D=D, W=200_000, H=9_600, t=500)
+        for B in beside(271_200):
+            yield sound_if(B <= 271_200, changed(wide, N=71, B=B), "spacing")
+        for N in beside(71):
+            yield sound_if(N >= 71, changed(wide, N=N, B=271_200), "spacing")
+    for N in (6, 7, 8, 40, 77, 78):         # between two whole B
+        B = doc.rounded_down(1_356_000 * N, 355)
+        yield sound(changed(EXAMPLE, N=N, B=B))
+        yield short(changed(EXAMPLE, N=N, B=B + 1), "spacing")
+    yield sound(changed(EXAMPLE, N=79, B=300_000))
+
+
+def strength_at_equality():
+    """1,000 pull is 19,950 A only where 20 divides A: d 14 (pull 37,905) and d 16 (49,875).
+    The other seven sizes have no equality; bolt_sizes has them on both sides of it."""
+    for d, pull in ((14, 37_905), (16, 49_875)):
+        W = TALL_MOMENT // 3 - 6 * pull
+        by_wind = changed(TALL_THIRDS, d=d, W=W)
+        for weight in (W - 7, W - 6, *beside(W), W + 5, W + 6):     # six pounds move it by one
+            yield sound_if(weight >= W, changed(by_wind, W=weight), "strength",
+                           shows=f"anchored {pull - (weight - W) // 6}")
+        Ms = 3 * (6 * pull + 11_000)
+        for moment in (Ms - 18, Ms - 17, *beside(Ms), Ms + 18, Ms + 19):    # so do eighteen
+            yield sound_if(moment <= Ms, changed(THIRDS, d=d, Ms=moment), "strength")
+    # M rounded up, from 722,042.88
+    rounded = changed(TALL_THIRDS, V=101, d=14)
+    for W in beside(13_251):
+        yield sound_if(W >= 13_251, changed(rounded, W=W), "strength")
+
+
+def lift_boundaries():
+    """785 and 1,540, at equality where 200 and 50 divide T, else between two moments."""
+    for sheet, T in ((SELF, 122_400), (WHOLE_BY_CAP, 94_000), (WHOLE_BY_ROOT, 64_400)):
+        none, lift = 157 * T // 200, 77 * T // 50
+        for Ms in beside(none):
+            word = "none" if Ms <= none else "lift"
+            yield sound(changed(sheet, Ms=Ms), f"{T} {word} holds")
+        for Ms in (lift, lift + 1):
+            word = "lift holds" if Ms <= lift else "over short"
+            yield sound_if(Ms <= lift, changed(sheet, Ms=Ms), "earthquake", shows=f"{T} {word}")
+    for W in range(18_346, 18_356):
+        sheet = changed(SELF, W=W)
+        T = outcome(forge(sheet)).report.standing.T
+        for boundary in (785, 1_540):
+            most = doc.rounded_down(boundary * T, 1_000)
+            for Ms in (most, most + 1):
+                holds = boundary == 785 or Ms == most
+                word = {785: ("none", "lift"), 1_540: ("lift", "over")}[boundary][Ms - most]
+                yield sound_if(holds, changed(sheet, Ms=Ms), "earthquake", shows=f"{T} {word}")
+    yield sound(changed(SELF, Ms=0), "122400 none holds 0000000000000000")
+
+
+# --- Groups: one rule, or several, that alone fall short ----------------------
+
+
+def one_course_short():
+    """The first, the last and each between; t 250, where 188 is required."""
+    for base in (EXAMPLE, SELF):
+        for n in (1, 2, 3, 7, 12):
+            sheet = with_widths(changed(base, H=1_200, W=100_000), [2_400] * n)
+            yield sound(sheet)
+            for number in range(1, n + 1):
+                yield short(course_changed(sheet, number, t=187), f"course {number}")
+    # by their need: the water reaches the first only, then all
+    yield short(course_changed(changed(FULL_HEADS, H=7_650), 1, t=187), "course 1")
+    yield short(course_changed(FULL_HEADS, 4, c=196), "course 4")
+
+
+def one_standing_rule_short():
+    yield short(changed(SELF, W=18_342), "wind")
+    yield short(changed(SELF, V=106), "wind")
+    yield short(changed(SELF, Ms=188_497), "earthquake")
+    yield short(changed(SELF, Ms=1_000_000_000), "earthquake")
+    yield short(changed(EXAMPLE, B=22_919), "spacing")
+    yield short(changed(EXAMPLE, B=300_000), "spacing")
+    # strength by the wind pull, the earthquake pull being negative or less
+    for Ms in (0, 100_000):
+        yield sound(changed(LIGHT, Ms=Ms, V=136))
+        yield short(changed(LIGHT, Ms=Ms), "strength")
+    # by the earthquake pull, the wind pull being less or negative
+    yield short(changed(EXAMPLE, Ms=257_564), "strength", shows="2133 12090")
+    yield short(changed(EXAMPLE, W=50_000, Ms=400_000), "strength")
+
+
+BREAKS = {      # a rule, and what makes it fall short alone
+    "course 2": lambda sheet: course_changed(sheet, 2, t=187),
+    "wind": lambda sheet: changed(sheet, W=18_342),
+    "earthquake": lambda sheet: changed(sheet, Ms=200_000),
+    "spacing": lambda sheet: changed(sheet, B=22_919),
+    "strength": lambda sheet: changed(sheet, Ms=900_000),
+}
+
+
+def several_short():
+    """Each subset of a course's rule and the two of a way of standing."""
+    both_ways = ((SELF, ("wind", "earthquake")), (EXAMPLE, ("spacing", "strength")))
+    for base, standing_rules in both_ways:
+        for rules in subsets(("course 2", *standing_rules)):
+            sheet = base
+            for rule in rules:
+                sheet = BREAKS[rule](sheet)
+            yield sound_if(not rules, sheet, *rules)
+
+
+# --- Groups: courses and water ------------------------------------------------
+
+
+def floors():
+    """An allowance is no part of the floor."""
+    low = changed(self_anchored(with_widths(EXAMPLE, [1_200] * 2)), H=1_200, W=10_000, s=40_000)
+    for D, floor in ((60_000, 188), (60_001, 250), (144_000, 250), (144_001, 313)):
+        for t in (187, 188, 189, 249, 250, 251, 312, 313, 314):
+            for c in (0, 120):
+                yield sound_if(t >= floor, changed(low, D=D, t=t, c=c), "course 1",
+                               "course 2", shows=f"| 0 {floor} {t}")
+
+
+def water_levels():
+    """At the top and one past; at each edge and one to either side; the least level."""
+    for sheet in (EXAMPLE, SELF):
+        for number in (1, 2):
+            edge = 9_600 * number
+            for H in beside(edge):
+                above = max(H - edge, 0)        # 0 or 1, which makes a need of as much
+                yield sound(changed(sheet, H=H), f"| {above} 188 250")
+        for H in (28_799, 28_800):
+            yield sound(changed(sheet, H=H))
+        for H in (28_801, 76_800):
+            yield refused("refused 37", *handed_in(changed(sheet, H=H)))
+        yield sound(changed(sheet, H=1_200), "| 3 188 250")
+    far_below = changed(with_widths(SELF, [6_400] * 12), H=6_401, W=200_000)
+    yield sound(far_below, "| 1 188 250")
+    yield sound(changed(far_below, H=6_400), "| 0 188 250")
+    # with no need, c alone is below the floor, at it and above it
+    yield sound(changed(far_below, H=1_200, c=187, t=190), "| 0 188 190")
+    yield sound(changed(far_below, H=1_200, c=188, t=191), "| 0 188 191")
+    yield sound(changed(far_below, H=1_200, c=189, t=192), "| 0 189 192")
+    for H in (76_799, 76_800):
+        yield sound(changed(far_below, H=H))
+
+
+def course_counts():
+    """One to twelve, with widths the same and differing, from either end; Hs 76,800."""
+    for n in range(1, 13):
+        same = with_widths(changed(EXAMPLE, W=150_000), [6_400] * n)
+        differing = with_courses(same, scripts.FULL_COURSES[:n])
+        reverse = with_courses(same, scripts.FULL_COURSES[:n][::-1])
+        for sheet in (same, differing, reverse):
+            Hs = model.shell_height(sheet)
+            yield sound(changed(sheet, H=Hs), f"courses {n}")
+            yield handed_in(changed(self_anchored(sheet), H=max(Hs // 2, 1_200)))
+            if Hs < 76_800:     # else H is outside its range
+                yield refused("refused 37", *handed_in(changed(sheet, H=Hs + 1)))
+    for n in range(6, 13):
+        sheet = with_courses(changed(EXAMPLE, W=150_000, H=76_800), courses_to(76_800, n))
+        yield sound(sheet, f"courses {n}")
+        yield handed_in(changed(self_anchored(sheet), H=12_800))
+
+
+def courses_told_apart():
+    """Twelve courses of other figures each, every one just enough; each in turn one mil short."""
+    sheet = with_courses(changed(EXAMPLE, D=100_000, H=70_000, W=400_000, N=40, B=100_000),
+                         scripts.FULL_COURSES)
+    for number, course in enumerate(outcome(forge(sheet)).report.courses, start=1):
+        sheet = course_changed(sheet, number, t=course.required)
+    yield sound(sheet)
+    for number, course in enumerate(outcome(forge(sheet)).report.courses, start=1):
+        yield short(course_changed(sheet, number, t=course.t - 1), f"course {number}")
+    for place in range(11):         # two neighbours change places
+        slots = list(sheet.courses)
+        slots[place], slots[place + 1] = slots[place + 1], slots[place]
+        yield handed_in(with_courses(sheet, slots))
+
+
+# --- Groups: wind and anchors -------------------------------------------------
+
+
+def pressures():
+    """At the least, 1,800: below it, met exactly and just passed; whole and rounded up."""
+    for Kz, I, V, p in ((75, 100, 125, 1_800), (75, 100, 126, 1_829), (75, 100, 124, 1_800),
+                        (76, 100, 125, 1_824), (60, 125, 125, 1_800), (61, 125, 125, 1_830),
+                        (50, 100, 60, 1_800), (150, 125, 150, 6_480), (150, 125, 125, 4_500),
+                        (109, 115, 96, 1_800), (109, 115, 97, 1_812), (109, 115, 150, 4_333)):
+        for sheet in (EXAMPLE, SELF):
+            records = handed_in(changed(sheet, Kz=Kz, I=I, V=V))
+            assert outcome(records[0]).report.p == p
+            yield records
+
+
+def pulls():
+    """Each of the two negative, 0 and positive, whole and rounded up; on THIRDS six pounds
+    of W move both by one, and eighteen foot-pounds the earthquake's."""
+    aims = (*product((-400, -1, 0, 1, 400), (0, 5), (-300, 0, 500), (0, 17)),
+            *product((-400, 0, 400), (1,), (-1, 0, 1), (0, 1, 17)))
+    for wind, heavier, earthquake, less in aims:
+        W = 62_208 // 3 - 6 * wind + heavier        # the exact pull is less by a sixth of it
+        Ms = 3 * (6 * earthquake + W) - less        # and by an eighteenth of this
+        yield sound(changed(THIRDS, W=W, Ms=Ms), f"anchored {wind} {earthquake}")
+    yield sound(changed(THIRDS, Ms=62_208), "anchored 1623 1623")
+    yield sound(changed(THIRDS, W=10_000_000, Ms=0), "anchored -1663210 -1666666")
+
+
+def bolt_sizes():
+    """Each size with the greatest pull that it bears and one more, by either pull; the wind
+    pull needs a taller tank for the larger ones."""
+    for d, A in doc.BOLT_CHART.items():
+        most = doc.rounded_down(19_950 * A, 1_000)
+        Ms = 3 * (6 * most + 11_000)
+        yield sound(changed(THIRDS, d=d, Ms=Ms), f"{most} holds")
+        yield short(changed(THIRDS, d=d, Ms=Ms + 1), "strength")
+        yield short(changed(THIRDS, d=d, Ms=Ms + 18), "strength", shows=f"{most + 1} holds")
+        W = TALL_MOMENT // 3 - 6 * most
+        yield sound(changed(TALL_THIRDS, d=d, W=W), f"anchored {most}")
+        yield short(changed(TALL_THIRDS, d=d, W=W - 1), "strength")
+        yield sound(changed(EXAMPLE, d=d), "anchored 2133 -211")
+        yield sound(changed(EXAMPLE, d=d, W=100_000, Ms=0))        # both negative: use 0
+
+
+# --- Groups: the ends of the ranges -------------------------------------------
+
+
+def end_sheet(field, figure, anchored):
+    """Hs is 60,000, or 76,800 where H is the field; D may be anything."""
+    height = 76_800 if field == 2 else 60_000
+    sheet = with_widths(changed(EXAMPLE, H=20_000, W=300_000, plate=500, t=1_000),
+                        widths_to(height, 6))
+    sheet = changed(sheet, N=100, B=300_000, d=12) if anchored else self_anchored(sheet)
+    if field == 15:
+        return course_changed(sheet, 2, width=figure)
+    return with_figure(sheet, field, figure)
+
+
+def field_ends():
+    """One field at a time at either end. B and d of 0 make anchored sheets that are refused;
+    one past an end is in reading_before_judging and forged_as_in_scripts."""
+    for anchored in (True, False):
+        for field in doc.FIELD_RANGES:
+            if anchored or field not in doc.ANCHOR_FIELDS:
+                for figure in doc.FIELD_RANGES[field]:
+                    yield handed_in(end_sheet(field, figure, anchored))
+    for D in (12_000, 240_000):         # the least B is D
+        yield handed_in(changed(end_sheet(1, D, True), B=D))
+    for end, widths in ((0, [1_200]), (0, [1_200] * 12), (1, [12_800] * 6), (1, [6_400] * 12)):
+        every = scripts.all_at(end, widths)
+        for sheet in (every, self_anchored(every)):
+            yield handed_in(sheet)
+            yield handed_in(changed(sheet, Ms=doc.FIELD_RANGES[11][1 - end]))
+            yield handed_in(changed(sheet, W=doc.FIELD_RANGES[3][1 - end]))
+            yield handed_in(changed(sheet, plate=500, allowance=0))
+
+
+def water_on_rim():
+    """wL by its cap, by its root, and the two the same: 12,640 exactly. Then tb 1."""
+    equal = changed(SELF, D=14_220, H=10_000, plate=132, allowance=100, Fy=30_000)
+    assert doc.water_on_rim_root(32, 30_000, 10_000) == doc.water_on_rim_cap(10_000, 14_220) \
+        == 12_640
+    nearby = [changed(equal, allowance=allowance) for allowance in beside(100)]
+    nearby += [changed(equal, D=D) for D in beside(14_220)]
+    nearby += [changed(equal, H=H) for H in beside(10_000)]
+    nearby += [changed(equal, Fy=30_001), changed(equal, plate=133), changed(equal, plate=131)]
+    thin = [changed(SELF, plate=plate, allowance=plate - 1) for plate in (100, 101, 250, 251)]
+    thin += [changed(thin[0], H=1_200), changed(thin[0], Fy=30_000), changed(thin[0], Fy=50_000)]
+    for sheet in (*nearby, *thin, WHOLE_BY_ROOT, WHOLE_BY_CAP):
+        most = doc.rounded_down(1_540 * outcome(forge(sheet)).report.standing.T, 1_000)
+        yield handed_in(sheet)
+        for Ms in (most, most + 1):
+            yield handed_in(changed(sheet, Ms=Ms))
+
+
+def margins():
+    """Sheets that bear out demand 3 by little (see judging.py)."""
+    for _name, sheet in (*judging.HALF_IS_LITTLE, *judging.MARGIN_COUNTS):
+        yield handed_in(sheet)
+
+
+# --- Groups: at random, from fixed seeds --------------------------------------
+
+
+def in_one_way(rng, sheet):
+    """As bytes or, less often, as it is."""
+    as_bytes, as_it_is = handed_in(sheet)
+    return (as_it_is,) if rng.random() < 0.1 else (as_bytes,)
+
+
+def random_self_anchored():
+    rng = Random(11)
+    for _ in range(1_000):
+        yield in_one_way(rng, near.self_anchored_sheet(rng))
+
+
+def random_anchored():
+    rng = Random(12)
+    for _ in range(1_000):
+        yield in_one_way(rng, near.anchored_sheet(rng))
+
+
+def end_of(rng, *fields):
+    return tuple(rng.choice(doc.FIELD_RANGES[field]) for field in fields)
+
+
+def end_course(rng, widest):
+    plate = rng.choice(((2_000, 250), (2_000, 0), (100, 0)))
+    return (rng.choice((1_200, widest)), *plate, *end_of(rng, 18, 19))
+
+
+def random_ends():
+    """Every field at an end of its range; the water at its least or up to the top."""
+    rng = Random(13)
+    for _ in range(100):
+        n = rng.randint(1, doc.MOST_COURSES)
+        courses = [end_course(rng, min(14_400, 76_800 // n)) for _ in range(n)]
+        H = rng.choice((1_200, sum(width for width, *_rest in courses)))
+        D, W, Fy = end_of(rng, 1, 3, 6)
+        bottom = rng.choice(((100, 99), (100, 0), (500, 0), (500, 250)))
+        anchored = (*end_of(rng, 12), rng.choice((D, 300_000)), rng.choice((6, 16)))
+        sheet = model.held((D, H, W, *bottom, Fy), end_of(rng, *doc.SITE_FIELDS),
+                           rng.choice((model.SELF_ANCHORED, anchored)), courses)
+        yield in_one_way(rng, sheet)
+
+
+def random_even():
+    """Drawn evenly, so that most are short or refused 37."""
+    rng = Random(14)
+    for _ in range(100):
+        yield in_one_way(rng, scripts.random_sheet(rng))
+
+
+def random_damage():
+    """The scripts' damaged bytes and sheets; some are still accepted."""
+    return openings(scripts.random_damage, scripts.random_noise, scripts.random_forged)
+
+
+# --- All groups ---------------------------------------------------------------
+
+RANDOM_SHEETS = (random_self_anchored, random_anchored, random_ends, random_even)
+IN_TURN = (
+    one_course_short, floors, course_counts, courses_told_apart, pressures, pulls, bolt_sizes,
+    field_ends, water_on_rim,
+)
+GROUPS = (
+    example_cases, readings_astray,
+    judge_order, incomplete, broken_slots, blank_slot_rubbish, counts_astray,
+    forged_as_in_scripts, left_by_a_run,
+    reading_singly, reading_as_in_scripts, reading_before_judging,
+    course_at_equality, self_wind_at_equality, self_earthquake_at_equality,
+    spacing_at_equality, strength_at_equality, lift_boundaries,
+    one_course_short, one_standing_rule_short, several_short,
+    floors, water_levels, course_counts, courses_told_apart,
+    pressures, pulls, bolt_sizes, field_ends, water_on_rim, margins,
+    *RANDOM_SHEETS, random_damage,
+)
+
+
+def records_of(group):
+    """Every record of each case or, to save bytes, the next one in turn."""
+    if group in IN_TURN:
+        return [case[number % len(case)] for number, case in enumerate(group())]
+    return [record for case in group() for record in case]
+
+
+@cache
+def group_records():
+    """Name of the group to its records."""
+    return {group.__name__: records_of(group) for group in GROUPS}
+
+
+def all_records():
+    return [record for records in group_records().values() for record in records]
+
+
+@cache
+def all_outcomes():
+    return [outcome(record) for record in all_records()]
+
+
+def all_lines():
+    return [result.line() for result in all_outcomes()]
+
+
+def word_counts():
+    """How many are called sound, called short and refused."""
+    counts = Counter(result.word() for result in all_outcomes())
+    return ", ".join(f"{counts[word]} {word}" for word in ("sound", "short", "refused"))
+
+
+# --- Self test, over all vectors ----------------------------------------------
+
+
+def check_lines():
+    """The example's line and the one stated value, spelled out."""
+    plate, spacing, strength = (hexadecimal(doc.use_bits(*sides)) for sides in (
+        (188, 250), (355 * 14_800, 1_356_000 * 6), (1_000 * 2_133, 19_950 * 606)))
+    assert outcome(forge(EXAMPLE)).line() == (
+        f"accepted sound wind 2123 73371 anchored 2133 -211 holds {spacing} holds {strength} "
+        f"uses {spacing} {strength} courses 3 | 59 188 250 holds {plate} "
+        f"| 40 188 250 holds {plate} | 20 188 250 holds {plate} . . . . . . . . .")
+    assert outcome(forge(model.EMPTY)).line() == (
+        "refused 32 short wind 0 0 self short 0000000000000000 0 over short 0000000000000000 "
+        "uses 0000000000000000 0000000000000000 courses 0 . . . . . . . . . . . .")
+
+
+def check_demand_3():
+    """Of every sheet that gets a report."""
+    for number, result in enumerate(all_outcomes(), start=1):
+        if result.refusal is None:
+            word = result.word()
+            assert judging.borne_out(result.sheet, word), \
+                f"demand 3: record {number} is called {word}; exact fractions do not bear it " \
+                f"out: {result.sheet}"
+
+
+def check_refusals():
+    """All that judging has are there, and those of reading, 16 with every field."""
+    words = {answer_word(result.refusal, "accepted") for result in all_outcomes()}
+    numbers = (*range(11, 16), 17, 18, 30, 32, 34, 35, 36, 37)
+    fields = {f"refused 16 {field}" for field in doc.FIELD_RANGES}
+    assert words == {"accepted", *(f"refused {number}" for number in numbers), *fields}
+
+
+def check_shares():
+    """Of the random sheets: both words, both ways of standing, both opcodes, every count."""
+    records = [record for group in RANDOM_SHEETS for record in group_records()[group.__name__]]
+    results = [result for result in map(outcome, records) if result.refusal is None]
+    words = Counter(result.word() for result in results)
+    ways = Counter(type(result.report.standing) for result in results)
+    assert len(results) >= LEAST_RANDOM_SHEETS
+    assert min(words["sound"], words["short"]) >= len(results) / 4
+    assert min(ways[judging.SelfAnchored], ways[judging.Anchored]) >= len(results) / 3
+    assert {record.opcode for record in records} == {READ, FORGE}
+    assert {result.sheet.count for result in results} == {*range(1, doc.MOST_COURSES + 1)}
+
+
+def self_test():
+    check_lines()
+    check_demand_3()
+    check_refusals()
+    check_shares()

@@ -1,0 +1,301 @@
+"""Judging the sheet of document 01, and demand 3 in fractions.
+
+Written from the document alone: "Order", "The rules" with the paragraphs after them, and the
+mission's third demand. The rules' figures are document.py's; `meets` takes none of them.
+"""
+
+from fractions import Fraction
+from typing import NamedTuple
+
+import document as doc
+import sheet as model
+
+# --- The report ---------------------------------------------------------------
+
+
+class CourseReport(NamedTuple):
+    need: int               # the hoop need, without c
+    required: int
+    t: int
+    verdict: doc.Verdict
+
+
+class SelfAnchored(NamedTuple):
+    wind: doc.Verdict
+    T: int
+    lift: str
+    earthquake: doc.Verdict
+
+    def rules(self):
+        """Name to verdict, in the order in which the uses are kept."""
+        return {"wind": self.wind, "earthquake": self.earthquake}
+
+
+class Anchored(NamedTuple):
+    wind_pull: int
+    earthquake_pull: int
+    spacing: doc.Verdict
+    strength: doc.Verdict
+
+    def rules(self):
+        return {"spacing": self.spacing, "strength": self.strength}
+
+
+class Report(NamedTuple):
+    p: int
+    M: int
+    standing: SelfAnchored | Anchored
+    courses: tuple          # of those held, from the bottom up
+
+
+NO_VERDICT = doc.Verdict(False, 0)
+NO_REPORT = Report(0, 0, SelfAnchored(NO_VERDICT, 0, "over", NO_VERDICT), ())   # beside a refusal
+
+
+def uses(report):
+    """The two uses of its way of standing, side by side."""
+    return tuple(verdict.use for verdict in report.standing.rules().values())
+
+
+def short_rules(report):
+    """Which of all its checks fall short."""
+    courses = {f"course {number}": course.verdict
+               for number, course in enumerate(report.courses, start=1)}
+    verdicts = {**courses, **report.standing.rules()}
+    return [name for name, verdict in verdicts.items() if not verdict.holds]
+
+
+def word(report):
+    """Sound: every course holds and the rules of its way of standing hold."""
+    return "short" if short_rules(report) else "sound"
+
+
+# --- Judging ------------------------------------------------------------------
+
+
+def refusal_of(sheet):
+    """Order: 30, then 32, 35, 36, 37."""
+    if not model.left_by_a_run(sheet):
+        return 30, 0
+    _D, H, *_rest = sheet.tank or (0,) * len(doc.TANK_FIELDS)
+    return doc.judge_refusal(sheet.tank is not None, sheet.count, sheet.site is not None, H,
+                             model.shell_height(sheet))
+
+
+def bottom_edges(sheet):
+    """Each course held, with the height of its bottom edge."""
+    edge = 0
+    for course in sheet.courses[:sheet.count]:
+        yield edge, course
+        edge += course[0]
+
+
+def course_reports(sheet):
+    D, H, *_rest = sheet.tank
+    for edge, (_width, t, c, s, E) in bottom_edges(sheet):
+        need = doc.hoop_need(doc.course_head(H, edge), D, s, E)
+        required = doc.required_plate(need, c, D)
+        yield CourseReport(need, required, t, doc.course_verdict(required, t))
+
+
+def self_anchored(sheet, M):
+    D, H, W, plate, allowance, Fy = sheet.tank
+    _V, _Kz, _I, Av, Ms = sheet.site
+    wt = doc.shell_weight_on_rim(W, Av, D)
+    T = doc.resistance(D, wt, doc.water_on_rim(plate - allowance, Fy, H, D))
+    return SelfAnchored(doc.self_wind_verdict(M, W, D), T, doc.uplift(Ms, T),
+                        doc.self_earthquake_verdict(Ms, T))
+
+
+def anchored(sheet, M):
+    _D, _H, W, *_rest = sheet.tank
+    *_rest, Ms = sheet.site
+    N, B, d = sheet.anchors
+    pulls = (doc.net_pull(M, W, B, N), doc.net_pull(Ms, W, B, N))
+    strength = doc.strength_verdict(doc.larger_pull(*pulls), doc.bolt_area(d))
+    return Anchored(*pulls, doc.spacing_verdict(B, N), strength)
+
+
+def report_of(sheet):
+    """Of a sheet that is not refused."""
+    D, *_rest = sheet.tank
+    V, Kz, I, *_rest = sheet.site
+    N, *_rest = sheet.anchors
+    p = doc.wind_pressure(Kz, I, V)
+    M = doc.wind_moment(p, D, model.shell_height(sheet))
+    standing = self_anchored(sheet, M) if N == 0 else anchored(sheet, M)
+    return Report(p, M, standing, tuple(course_reports(sheet)))
+
+
+class Answer(NamedTuple):
+    refusal: tuple | None
+    report: Report
+
+
+def judge(sheet):
+    """The sheet as it is handed in."""
+    refusal = refusal_of(sheet)
+    return Answer(refusal, report_of(sheet) if refusal is None else NO_REPORT)
+
+
+# --- "Demand 3 in fractions" --------------------------------------------------
+
+
+class Margins(NamedTuple):
+    plate: Fraction
+    moment: Fraction
+    resistance: Fraction
+    pull: Fraction
+
+
+NO_MARGINS = Margins(*map(Fraction, (0, 0, 0, 0)))
+
+
+def given_margins(sheet):
+    D, *_rest = sheet.tank
+    Hs = model.shell_height(sheet)
+    return Margins(
+        plate=Fraction(1),
+        moment=Fraction(D * Hs * Hs, 345_600_000_000) + 1,
+        resistance=Fraction(D * D, 72_000_000) + 1,
+        pull=Fraction(1),
+    )
+
+
+def courses_meet(sheet, margins):
+    D, H, *_rest = sheet.tank
+    for edge, (_width, t, c, s, E) in bottom_edges(sheet):
+        h = max(H - edge, 0)
+        if t < doc.house_floor(D) or t < Fraction(13 * h * D, 72 * s * E) + margins.plate + c:
+            return False
+    return True
+
+
+def exact_wind_moment(sheet, margins):
+    """M, with its margin."""
+    D, *_rest = sheet.tank
+    V, Kz, I, *_rest = sheet.site
+    Hs = model.shell_height(sheet)
+    p = max(Fraction(6 * Kz * I * V * V, 390_625), 1_800)
+    return p * D * Hs * Hs / 345_600_000_000 + margins.moment
+
+
+def self_anchored_meets(sheet, margins):
+    """The root of wL is compared by squares."""
+    D, H, W, plate, allowance, Fy = sheet.tank
+    _V, _Kz, _I, Av, Ms = sheet.site
+    tb = plate - allowance
+    wt = Fraction(2_712_000 * W * (10_000 - 4 * Av), 710_000 * D)
+    x = 144_000_000 * (Fraction(1_000 * Ms, 1_540) + margins.resistance) / (D * D) - wt
+    return 3_600 * exact_wind_moment(sheet, margins) <= W * D \
+        and x <= Fraction(H * D, 11_250) \
+        and (x <= 0 or 12_000_000 * x * x <= 6_241 * tb * tb * Fy * H)
+
+
+def anchored_meets(sheet, margins):
+    _D, _H, W, *_rest = sheet.tank
+    *_rest, Ms = sheet.site
+    N, B, d = sheet.anchors
+    pulls = [(4_800 * moment - W * B) / (N * B) + margins.pull
+             for moment in (exact_wind_moment(sheet, margins), Fraction(Ms))]
+    return 355 * B <= 1_356_000 * N \
+        and all(1_000 * pull <= 19_950 * doc.BOLT_CHART[d] for pull in pulls)
+
+
+def meets(sheet, margins):
+    """All the rules, over the fields only, with nothing rounded."""
+    N, *_rest = sheet.anchors
+    standing_meets = self_anchored_meets if N == 0 else anchored_meets
+    return courses_meet(sheet, margins) and standing_meets(sheet, margins)
+
+
+def borne_out(sheet, word_on_it):
+    """The claim about the sheet judged and the word on it."""
+    if word_on_it == "sound":
+        return meets(sheet, NO_MARGINS)
+    return not meets(sheet, given_margins(sheet))
+
+
+# --- Self test ----------------------------------------------------------------
+#
+# The margin of plate is never needed: t and c are whole, so that t below the rounded need plus
+# c is t below the exact need plus c, and no sheet is called short by that rounding alone. Of
+# each of the other three margins half would not do, as HALF_IS_LITTLE shows.
+
+EXAMPLE_BOTTOM = (250, 0, 36_000)
+LOW_WATER_COURSE = (9_600, 250, 0, 40_000, 100)
+
+# D is 60,000 and h 30,600, 22,950, 15,300, 7,650, so that the need is 13 h / 1,530 mils: 260,
+# 195, 130, 65, nothing rounded. With c every course requires its t.
+FULL_HEADS = model.held((60_000, 30_600, 25_000, *EXAMPLE_BOTTOM), (105, 109, 115, 27, 30_000),
+                        model.SELF_ANCHORED,
+                        [(7_650, 260, 65 * place, 15_000, 85) for place in range(4)])
+
+# A margin, and a sheet called short that meets every rule with half of it and the others whole.
+HALF_IS_LITTLE = (
+    ("moment", model.held((14_400, 9_600, 27_691, *EXAMPLE_BOTTOM), (129, 109, 115, 27, 0),
+                          model.SELF_ANCHORED, [LOW_WATER_COURSE] * 3)),
+    ("moment", model.held((14_400, 9_600, 182_923, *EXAMPLE_BOTTOM), (129, 109, 115, 27, 0),
+                          (6, 14_800, 8), [LOW_WATER_COURSE] * 8)),
+    ("resistance", model.held((144_000, 9_796, 200_005, 500, 0, 50_000),    # wL by its cap
+                              (60, 50, 100, 27, 39_443_786), model.SELF_ANCHORED,
+                              [(9_600, 400, 0, 40_000, 100)] * 3)),
+    ("resistance", model.held((144_000, 9_620, 200_005, 120, 100, 36_000),  # by its root
+                              (60, 50, 100, 27, 13_519_821), model.SELF_ANCHORED,
+                              [(9_600, 400, 0, 40_000, 100)] * 3)),
+    ("pull", model.EXAMPLE._replace(site=(105, 109, 115, 27, 257_564))),
+)
+
+# A margin, and a sheet called sound that this margin alone would break.
+MARGIN_COUNTS = (
+    ("plate", FULL_HEADS),
+    ("moment", model.held((14_400, 28_800, 15_552, *EXAMPLE_BOTTOM), (96, 109, 115, 27, 0),
+                          model.SELF_ANCHORED, [LOW_WATER_COURSE] * 3)),
+    ("moment", model.held((14_400, 9_600, 141_210, *EXAMPLE_BOTTOM), (125, 150, 125, 27, 0),
+                          (6, 14_400, 14), [LOW_WATER_COURSE] * 8)),
+    ("resistance", model.held((12_000, 10_000, 17_750, 120, 100, 30_000),
+                              (96, 109, 115, 0, 99_176), model.SELF_ANCHORED,
+                              [LOW_WATER_COURSE] * 3)),
+    ("resistance", model.held((12_000, 28_800, 19_880, *EXAMPLE_BOTTOM),
+                              (96, 109, 115, 0, 144_760), model.SELF_ANCHORED,
+                              [LOW_WATER_COURSE] * 3)),
+    ("pull", model.EXAMPLE._replace(site=(105, 109, 115, 27, 257_563))),
+)
+
+
+def word_on(sheet):
+    refusal, report = judge(sheet)
+    assert refusal is None
+    return word(report)
+
+
+def check_margins():
+    """The claim has teeth: it fails with half a margin, and each margin is part of `meets`."""
+    for name, sheet in HALF_IS_LITTLE:
+        margins = given_margins(sheet)
+        halved = margins._replace(**{name: getattr(margins, name) / 2})
+        assert word_on(sheet) == "short" and borne_out(sheet, "short")
+        assert meets(sheet, halved), f"half the margin of {name} is enough"
+    for name, sheet in MARGIN_COUNTS:
+        alone = NO_MARGINS._replace(**{name: getattr(given_margins(sheet), name)})
+        assert word_on(sheet) == "sound" and borne_out(sheet, "sound")
+        assert not meets(sheet, alone), f"the margin of {name} counts for nothing"
+
+
+def self_test():
+    refusal, report = judge(model.EXAMPLE)
+    assert refusal is None and word(report) == "sound"
+    assert (report.p, report.M) == (2_123, 73_371)
+    assert report.standing[:2] == (2_133, -211)
+    assert [course[:3] for course in report.courses] \
+        == [(59, 188, 250), (40, 188, 250), (20, 188, 250)]
+
+    # "self wind short resist 94646 none"
+    refusal, report = judge(model.EXAMPLE._replace(anchors=model.SELF_ANCHORED))
+    assert refusal is None and short_rules(report) == ["wind"]
+    assert report.standing[1:3] == (94_646, "none")
+
+    # the mission's margins, on a tank of 12 ft by 24 ft
+    assert given_margins(model.EXAMPLE) \
+        == (1, Fraction(12 * 24 * 24, 200) + 1, Fraction(12 * 12, 50) + 1, 1)
+    check_margins()
