@@ -26,7 +26,7 @@ STDOUT = "crates/leaves/stdout"
 EXAMPLE = "crates/example/stdout"
 SCRIPTS_STDIN = "crates/scripts/stdin"      # records, not lines
 SCRIPTS_STDOUT = "crates/scripts/stdout"
-MOST_SCRIPTS_BYTES = 2**21                  # what the program has room for
+MOST_RECORDS = 100_000                      # that the program reads
 
 
 def leaf_files():
@@ -51,7 +51,7 @@ def all_records():
 def script_files():
     stdin = records.as_bytes(all_records())
     stdout = leaves.as_bytes(scripts.all_lines() + judged.all_lines())
-    assert len(stdin) < MOST_SCRIPTS_BYTES
+    assert len(all_records()) < MOST_RECORDS
     return {SCRIPTS_STDIN: stdin, SCRIPTS_STDOUT: stdout}
 
 

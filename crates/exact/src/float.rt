@@ -2,7 +2,8 @@
 ghost use mathlib.Core.Path.{_≡_};
 ghost use lib.Ieee.{binary64, toBits};
 
-// The 64-bit pattern of a float. Which one a NaN has the language leaves open: it is the kit's here.
+// The 64-bit pattern of a float. The language leaves open which one a NaN has; here it is the one of the
+// kit's definition.
 pub fn bits(x: f64) -> u64
     ensures { λ r. ⌜ r ≡ toBits binary64 x ⌝ }
 {

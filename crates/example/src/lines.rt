@@ -33,7 +33,7 @@ pub(crate) fn report(r: Report) {
     word(said);
 }
 
-// Up to the first line that no course has.
+// The lines of the courses held; a line past them has plate 0.
 fn courses(all: [CourseLine; 12]) {
     let mut i: usize = 0;
     while i < 12 {

@@ -21,7 +21,8 @@ fn main() {
     lines::report(report);
 }
 
-// A refused step would leave the sheet as it was, and judging would say what is missing.
+// No step is refused here. With other figures look at each reply's answer: after refused anchors, say,
+// the tank would be judged as self-anchored.
 fn example() -> Sheet {
     let tank = Tank {
         diameter: 14400,

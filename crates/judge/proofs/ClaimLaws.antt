@@ -85,7 +85,7 @@ judge-told s e = (
   (ap (λ (j : Judgement). answerPaper (j .answer)) e ∙ judge-paper s, subst (λ (j : Judgement). BornOut s j) (sym e) (born-out s)),
 )
 
--- From bytes. A refusal of reading is the answer, beside it stands no report, and the claim asks for one.
+-- From bytes. A refusal of reading is the answer; the claim speaks of answers that are none.
 mark-claim : (a : Answer) (s : Sheet) → BornOut s (unlessRefused a (judged s))
 mark-claim Accepted s = born-out s
 mark-claim (Refused r) s = record { sound = λ a w. clash (accepted (Refused r) a); short = λ a w m. clash (accepted (Refused r) a) }

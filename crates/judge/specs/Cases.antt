@@ -1,4 +1,5 @@
--- The cases that document 01 marks ◆: "The example tank" with one figure changed, and what its report then says.
+-- The cases that document 01 marks ◆: "The example tank" with the figures changed that the case names, and what its
+-- report then says.
 use mathlib.Core.List.{List, [], _∷_}
 use Prim.Native.Nat.{ℕ, _-_}
 use lib.IntN.{ℤ, pos, negℤ}

@@ -31,7 +31,7 @@ fn line(tank: Tank, edge: u32, c: Course) -> CourseLine
     }
 }
 
-// The lines of the first n courses, and blank ones.
+// The lines of the first n courses, and blank ones up to twelve.
 pub(crate) fn lines(tank: Tank, courses: [Course; 12], n: usize) -> [CourseLine; 12]
     requires { ⌜ n ≤ 12 ⌝ }
     requires { ⌜ T (clear (tankFlaws tank)) ⌝ }

@@ -51,7 +51,7 @@ pub(crate) fn without(refusal: Refusal) -> Judgement
     }
 }
 
-// Judging a sheet, once it was asked for what it holds.
+// Judging, given what `opening` answered.
 pub(crate) fn judge_opened(s: Sheet, opened: Opened) -> Judgement
     requires { ⌜ opened ≡ openedOf s ⌝ }
     ensures { λ r. ⌜ r ≡ judged s ⌝ }
@@ -82,7 +82,7 @@ fn judge_complete(s: Sheet, entries: Entries) -> Judgement
     }
 }
 
-// The report on n courses of this height.
+// The report on a tank with the first n courses, whose height this is.
 fn report(
     tank: Tank,
     site: Site,
@@ -117,6 +117,7 @@ fn report(
     }
 }
 
+// Sound when every course and both rules of its way of standing hold.
 fn word(lines: [CourseLine; 12], n: usize, standing: Standing) -> Word
     requires { ⌜ n ≤ 12 ⌝ }
     ensures { λ r. ⌜ r ≡ wordOf (take n lines) standing ⌝ }

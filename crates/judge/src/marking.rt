@@ -10,7 +10,7 @@ use sheet::entries::Answer;
 use sheet::opening;
 use sheet::reading;
 
-// The sheet that these bytes are is read, and judged. Refused: as reading is, then as judging is.
+// Reads the sheet that these bytes hold, and judges it. Refused: as reading is, then as judging is.
 pub fn mark(bytes: &[u8]) -> Judgement
     ensures { λ r. ⌜ r ≡ marked (now (bytes .entry)) ⌝ }
     ensures { λ r. ⌜ answerPaper (r .answer) ≡ markPaper (now (bytes .entry)) ⌝ }

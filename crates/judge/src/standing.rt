@@ -18,7 +18,7 @@ use sheet::entries::Anchors;
 use sheet::entries::Site;
 use sheet::entries::Tank;
 
-// T.
+// T, the resistance to overturning by earthquake, in foot-pounds.
 fn resistance(tank: Tank, site: Site) -> u64
     requires { ⌜ T (clear (tankFlaws tank)) ⌝ }
     requires { ⌜ T (clear (siteFlaws site)) ⌝ }

@@ -103,7 +103,7 @@ fn line(l: CourseLine) {
     verdict(v);
 }
 
-// Whether a line with this verdict is the one past the courses.
+// Whether this is the blank line past the courses; v is its verdict.
 fn is_blank(l: CourseLine, v: Verdict) -> bool {
     if l.need != 0 {
         return false;

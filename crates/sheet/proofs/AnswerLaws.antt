@@ -17,13 +17,15 @@ use Rattle.fields.specs.declared.refusal.Refusal.the-variants.{Unreachable, Buf
 use Rattle.fields.proofs.RefusalLaws.{never-zero}
 use Rattle.sheet.specs.Order.{Condition, _when_, firstOf, First, answerPaper, firstPaper, papers, sixteen}
 use Rattle.sheet.specs.Sheet.{emptySheet, tankFlaws, siteFlaws, anchorFlaws, courseFlaws}
-use Rattle.sheet.specs.Steps.{Step, stateTank, stateSite, stateAnchors, addCourse, orderOf, taken, LeftByRun, each, reachable, unreachable, incomplete, stated, unless, inTurn}
+use Rattle.sheet.specs.Steps.{Step, stateTank, stateSite, stateAnchors, addCourse, orderOf, taken, LeftByRun, each, reachable, unreachable, incomplete, stated, unless, inTurn, entriesOf, openedAs, openedOf, openedPaper}
 use Rattle.sheet.specs.Bytes.{wholeLength, writeOrder, writtenAs, WriteReply, written, readOrder, stepsIn, readIn, unlessPaper, turnPaper, readPaper, writePaper, writtenPaper}
 use Rattle.sheet.specs.declared.entries.Tank.{Tank}
 use Rattle.sheet.specs.declared.entries.Site.{Site}
 use Rattle.sheet.specs.declared.entries.Anchors.{Anchors}
 use Rattle.sheet.specs.declared.entries.Course.{Course}
 use Rattle.sheet.specs.declared.entries.Sheet.{Sheet}
+use Rattle.sheet.specs.declared.entries.Entries.{Entries}
+use Rattle.sheet.specs.declared.entries.Opened as Opened
 use Rattle.sheet.specs.declared.entries.Reply.{Reply}
 use Rattle.sheet.specs.declared.entries.Written as Written
 use Rattle.sheet.specs.declared.entries.Answer.{Answer}
@@ -202,6 +204,20 @@ read-sheet-reachable b = go (firstOf (readOrder b))
     go (Refused r) = empty-reachable
 
 -- ---- the clauses of the public contracts
+
+opened-paper : (a : Answer) (e : Entries) → openedPaper (openedAs a e) ≡ answerPaper a
+opened-paper Accepted e = refl
+opened-paper (Refused r) e = refl
+
+pub opened-told : (s : Sheet) {y : Opened.Opened} → y ≡ openedOf s
+    → (y ≡ openedOf s) × (openedPaper y ≡ firstPaper (unreachable s ∷ incomplete s))
+unfolding openedOf
+opened-told s e = (
+  e,
+  ap openedPaper e
+      ∙ opened-paper (firstOf (unreachable s ∷ incomplete s)) (entriesOf s)
+      ∙ first-paper (unreachable s ∷ incomplete s),
+)
 
 pub stated-told : (s : Sheet) (x : Step) {y : Reply} → y ≡ stated s x
     → (y ≡ stated s x) × (answerPaper (y .answer) ≡ firstPaper (unreachable s ∷ orderOf s x))

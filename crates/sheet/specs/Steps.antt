@@ -6,6 +6,8 @@ use mathlib.Core.List.{List, [], _∷_, _++_}
 use Prim.Native.Nat.{ℕ, _+_}
 use lib.Dec.{leb, eqb}
 use lib.ListN.{length, take, drop, set}
+use Rattle.fields.specs.Refusal.{plain, paperOf}
+use Rattle.fields.specs.declared.refusal.Paper.{Paper}
 use Rattle.fields.specs.declared.refusal.Refusal.{Refusal}
 use Rattle.fields.specs.declared.refusal.Refusal.the-variants.{Unreachable, TankStated, NoTank, CoursesFull, NoCourse, NoSite}
 use Rattle.sheet.specs.Order.{Condition, _when_, firstOf, clear}
@@ -133,7 +135,7 @@ abbrev pub incomplete : Sheet → List Condition
 incomplete s =
     (NoTank when tankBlank (s .tank)) ∷ (NoCourse when eqb (s .count) 0) ∷ (NoSite when siteBlank (s .site)) ∷ []
 
--- the answer to these, and the tank and site of a sheet that is complete
+-- the answer to 30 and these, and the tank and site of a sheet that is complete
 abbrev pub entriesOf : Sheet → Entries
 entriesOf s = record { tank = tankOf (s .tank); site = siteOf (s .site) }
 
@@ -143,6 +145,11 @@ openedAs (Refused r) e = Opened.the-variants.Refused r
 
 unfoldable pub openedOf : Sheet → Opened.Opened
 openedOf s = openedAs (firstOf (unreachable s ∷ incomplete s)) (entriesOf s)
+
+-- on paper: 0 where the sheet is complete, or the refusal's number
+abbrev pub openedPaper : Opened.Opened → Paper
+openedPaper (Opened.the-variants.Complete e) = plain 0
+openedPaper (Opened.the-variants.Refused r) = paperOf r
 
 -- A step on a sheet that is handed in: 30 first, then its own order.
 unfoldable pub stated : Sheet → Step → Reply

@@ -82,7 +82,7 @@ pub struct Entries {
     pub site: Site,
 }
 
-// The answer to what judging and writing ask first: why the sheet is not complete, or its entries.
+// The answer to what judging and writing ask first: why the sheet is refused, or its entries.
 pub enum Opened {
     Refused(Refusal),
     Complete(Entries),

@@ -8,7 +8,7 @@ opened-requires : tie.Need-opened-requires
 opened-requires c κs = search needs
 
 judge-opened-requires : tie.Need-judge-opened-requires
-judge-opened-requires c κs = c .opened .ensures
+judge-opened-requires c κs = c .opened .ensures .0
 
 returns : tie.Need-returns
 returns c = judge-told (c .before .before .args .s) (c .judge-opened .ensures)

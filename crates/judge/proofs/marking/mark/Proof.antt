@@ -32,7 +32,7 @@ opened-reachable-requires c κs = let r = c .before .before .before in
     subst (λ (y : Reply). T (reachable (y .sheet))) (sym (r .read .ensures .0)) (read-sheet-reachable (r .before .before .args .bytes .now))
 
 judge-opened-requires : tie.Need-judge-opened-requires
-judge-opened-requires c κs = c .opened-reachable .ensures
+judge-opened-requires c κs = c .opened-reachable .ensures .0
 
 returns-2 : tie.Need-returns-2
 returns-2 c = let a = c .before .before .before in

@@ -3,6 +3,7 @@ use mathlib.Core.Path.{_∙_, sym, subst}
 use lib.Dec.{T}
 use borrow.Author.Tests.{not-true, not-false}
 use borrow.Author.Needs.{needs}
+use Rattle.sheet.proofs.AnswerLaws.{opened-told}
 use Rattle.sheet.proofs.OpenLaws.{open-unreachable}
 use Rattle.sheet.proofs.opening.opened.Statement.{statement}
 use Rattle.sheet.proofs.opening.opened.Tie as tie
@@ -11,7 +12,7 @@ is-reachable-requires : tie.Need-is-reachable-requires
 is-reachable-requires c κs = search needs
 
 returns : tie.Need-returns
-returns c = sym (open-unreachable (c .before .before .args .s) (sym (c .before .is-reachable .ensures .0) ∙ not-true _ (c .if1 .taken)))
+returns c = opened-told (c .before .before .args .s) (sym (open-unreachable (c .before .before .args .s) (sym (c .before .is-reachable .ensures .0) ∙ not-true _ (c .if1 .taken))))
 
 opened-reachable-requires : tie.Need-opened-reachable-requires
 opened-reachable-requires c κs = subst T (sym (sym (c .before .is-reachable .ensures .0) ∙ not-false _ (c .if1 .left))) tt

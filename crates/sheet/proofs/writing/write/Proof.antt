@@ -17,13 +17,13 @@ enum-known-opened-2 c = search needs
 
 write-complete-requires : tie.Need-write-complete-requires
 write-complete-requires c κs = let p = c .before .before in
-    sym (p .before .before .opened .ensures) ∙ p .opened3 .given .1
+    sym (p .before .before .opened .ensures .0) ∙ p .opened3 .given .1
 
 returns : tie.Need-returns
 returns c = let p = c .before in
     let o = p .before .before in
     let a = o .before .before .args in
-    written-told (a .s) (a .out .now) (write-refused (a .s) (a .out .now) (sym (o .opened .ensures) ∙ p .opened2 .given .1))
+    written-told (a .s) (a .out .now) (write-refused (a .s) (a .out .now) (sym (o .opened .ensures .0) ∙ p .opened2 .given .1))
 
 same-length : tie.Need-same-length
 same-length c = search needs
