@@ -15,8 +15,8 @@ use borrow.Author.Tests.{leb-false, ltb-false}
 use Rattle.fields.specs.Range.{between, within}
 use Rattle.fields.specs.declared.refusal.Refusal.the-variants.{TankStated, NoTank, CoursesFull}
 use Rattle.sheet.specs.Order.{_when_, firstOf, clear}
-use Rattle.sheet.specs.Sheet.{tooHigh, noAnchors, anchorFigures, courseFigures, blankCourse, emptySheet, held, heightOf, badAnchors, tankFlaws, siteFlaws, anchorFlaws, courseFlaws}
-use Rattle.sheet.specs.Steps.{Step, stateTank, stateSite, stateAnchors, addCourse, tankBlank, diameterOf, orderOf, filled, replied, taken, run, blank, siteBlank, siteClear, coursesClear, coursesBlank, slotsReachable, partsReachable, reachable}
+use Rattle.sheet.specs.Sheet.{tooHigh, noAnchors, anchorFigures, courseFigures, blankCourse, emptySheet, held, heightOf, badAnchors, tankFlaws, siteFlaws, anchorFlaws, courseFlaws, tankOf}
+use Rattle.sheet.specs.Steps.{Step, stateTank, stateSite, stateAnchors, addCourse, tankBlank, orderOf, filled, replied, taken, run, blank, siteBlank, siteClear, coursesClear, coursesBlank, slotsReachable, partsReachable, reachable}
 use Rattle.sheet.specs.declared.entries.Tank.{Tank}
 use Rattle.sheet.specs.declared.entries.Site.{Site}
 use Rattle.sheet.specs.declared.entries.Anchors.{Anchors}
@@ -173,11 +173,11 @@ module _ (s : Sheet) (h : T (reachable s)) where
       halves-reach (filled s (stateSite x)) (reach-slots s h)
       (held-parts d (SiteEntry.the-variants.Filled x) (s .anchors) (s .count) (accepted-clear (siteFlaws x) (o .1)) (parts-held d .2))
   filled-reachable (stateAnchors a) e =
-      let o = first-cons (NoTank when tankBlank (s .tank)) (anchorFlaws (diameterOf (s .tank)) a) e in
+      let o = first-cons (NoTank when tankBlank (s .tank)) (anchorFlaws (tankOf (s .tank) .diameter) a) e in
       let d = tank-entry-held (s .tank) (o .0) in
       halves-reach (filled s (stateAnchors a)) (reach-slots s h)
       (held-parts d (s .site) a (s .count) (parts-held d .1)
-      (accepted-clear (anchorFlaws (d .tank .diameter) a) (subst (λ (e : TankEntry.TankEntry). firstOf (anchorFlaws (diameterOf e) a) ≡ Accepted) (d .is) (o .1))))
+      (accepted-clear (anchorFlaws (d .tank .diameter) a) (subst (λ (e : TankEntry.TankEntry). firstOf (anchorFlaws (tankOf e .diameter) a) ≡ Accepted) (d .is) (o .1))))
   filled-reachable (addCourse c) e =
       let high = tooHigh (heightOf (held s)) c in
       let o = first-cons (NoTank when tankBlank (s .tank)) ((CoursesFull when leb 12 (s .count)) ∷ (courseFlaws c ++ high ∷ [])) e in

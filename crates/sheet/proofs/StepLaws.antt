@@ -9,8 +9,8 @@ use borrow.Author.Tests.{le-leb, lt-leb}
 use Rattle.fields.specs.declared.refusal.Refusal.{Refusal}
 use Rattle.fields.specs.declared.refusal.Refusal.the-variants.{Unreachable, TankStated, NoTank, CoursesFull}
 use Rattle.sheet.specs.Order.{Condition, _when_, firstOf, orElse}
-use Rattle.sheet.specs.Sheet.{tooHigh, emptySheet, held, heightOf, tankFlaws, siteFlaws, anchorFlaws, courseFlaws}
-use Rattle.sheet.specs.Steps.{Step, stateTank, stateSite, stateAnchors, addCourse, tankBlank, diameterOf, orderOf, filled, refused, replied, taken, stated, reachable, unless, inTurn}
+use Rattle.sheet.specs.Sheet.{tooHigh, emptySheet, held, heightOf, tankFlaws, siteFlaws, anchorFlaws, courseFlaws, tankOf}
+use Rattle.sheet.specs.Steps.{Step, stateTank, stateSite, stateAnchors, addCourse, tankBlank, orderOf, filled, refused, replied, taken, stated, reachable, unless, inTurn}
 use Rattle.sheet.specs.declared.entries.Tank.{Tank}
 use Rattle.sheet.specs.declared.entries.Site.{Site}
 use Rattle.sheet.specs.declared.entries.Anchors.{Anchors}
@@ -39,7 +39,7 @@ module _ (s : Sheet) where
     site-early x = by-tank (stateSite x) (λ e. (NoTank when tankBlank e) ∷ siteFlaws x) Blank refl b
 
     pub anchors-early : (a : Anchors) → taken s (stateAnchors a) ≡ refused NoTank s
-    anchors-early a = by-tank (stateAnchors a) (λ e. (NoTank when tankBlank e) ∷ anchorFlaws (diameterOf e) a) Blank refl b
+    anchors-early a = by-tank (stateAnchors a) (λ e. (NoTank when tankBlank e) ∷ anchorFlaws (tankOf e .diameter) a) Blank refl b
 
     pub course-early : (c : Course) → taken s (addCourse c) ≡ refused NoTank s
     course-early c =
@@ -58,7 +58,7 @@ module _ (s : Sheet) where
 
     pub anchors-taken : (a : Anchors)
         → taken s (stateAnchors a) ≡ replied (firstOf (anchorFlaws (d .diameter) a)) s (filled s (stateAnchors a))
-    anchors-taken a = by-tank (stateAnchors a) (λ e. (NoTank when tankBlank e) ∷ anchorFlaws (diameterOf e) a) (Filled d) refl f
+    anchors-taken a = by-tank (stateAnchors a) (λ e. (NoTank when tankBlank e) ∷ anchorFlaws (tankOf e .diameter) a) (Filled d) refl f
 
     course-order : (c : Course)
         → taken s (addCourse c)

@@ -54,7 +54,8 @@ abbrev pub heightOf : List Course → ℕ
 heightOf [] = 0
 heightOf (c ∷ cs) = c .width + heightOf cs
 
--- the tank and the site of a sheet that is written or judged; one that lacks them is refused, and these zeros are not looked at
+-- the tank and the site held; where anchors are stated, or a sheet is written or judged, one that lacks them is refused before, and these
+-- zeros are not looked at
 abbrev pub tankOf : TankEntry.TankEntry → Tank
 tankOf TankEntry.the-variants.Blank = record { diameter = 0; level = 0; weight = 0; plate = 0; allowance = 0; fy = 0 }
 tankOf (TankEntry.the-variants.Filled t) = t

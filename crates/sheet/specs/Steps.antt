@@ -35,17 +35,12 @@ abbrev pub tankBlank : TankEntry.TankEntry → Bool
 tankBlank TankEntry.the-variants.Blank = true
 tankBlank (TankEntry.the-variants.Filled t) = false
 
--- the D of the tank held
-abbrev pub diameterOf : TankEntry.TankEntry → ℕ
-diameterOf TankEntry.the-variants.Blank = 0
-diameterOf (TankEntry.the-variants.Filled t) = t .diameter
-
 -- The order of refusals of each step, 30 aside.
 -- Tank: 31, 16, 17. Site: 32, 16. Anchors: 32, 16, 18. Course: 32, 33, 16, 17, 34.
 abbrev pub orderOf : Sheet → Step → List Condition
 orderOf s (stateTank t) = (TankStated when not (tankBlank (s .tank))) ∷ tankFlaws t
 orderOf s (stateSite x) = (NoTank when tankBlank (s .tank)) ∷ siteFlaws x
-orderOf s (stateAnchors a) = (NoTank when tankBlank (s .tank)) ∷ anchorFlaws (diameterOf (s .tank)) a
+orderOf s (stateAnchors a) = (NoTank when tankBlank (s .tank)) ∷ anchorFlaws (tankOf (s .tank) .diameter) a
 orderOf s (addCourse c) =
     (NoTank when tankBlank (s .tank))
     ∷ (CoursesFull when leb 12 (s .count))
