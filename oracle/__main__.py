@@ -1,8 +1,13 @@
 """The oracle's command line.
 
-python3 oracle make    writes what the programs read and are to write, beside each
-python3 oracle check   makes the same again and compares it with what is stored
-python3 oracle groups  lists which records and lines of the scripts each group has
+python3 oracle make           writes what the programs read and are to write, beside each
+python3 oracle check          makes the same again and compares it with what is stored
+python3 oracle groups         lists which records, lines and sheets each group has
+python3 oracle sheet FIGURES  writes the bytes of the sheet with these figures
+python3 oracle text SHEET     writes what the marker is to print for these bytes
+python3 oracle try PROGRAM    runs the built marker on inputs fed in unusual ways
+
+FIGURES (see oracle/example.txt) and SHEET are files, or - for standard input.
 """
 
 import sys
@@ -12,13 +17,16 @@ sys.dont_write_bytecode = True
 from pathlib import Path
 
 import document
-import example
+import figures
 import judged
 import judging
 import leaves
 import records
 import scripts
 import sheet
+import sheets
+import text
+import tries
 
 ROOT = Path(__file__).resolve().parent.parent
 STDIN = "crates/leaves/stdin"
@@ -26,7 +34,13 @@ STDOUT = "crates/leaves/stdout"
 EXAMPLE = "crates/example/stdout"
 SCRIPTS_STDIN = "crates/scripts/stdin"      # records, not lines
 SCRIPTS_STDOUT = "crates/scripts/stdout"
+MARKER_STDIN = "crates/marker/stdin"        # one sheet
+MARKER_STDOUT = "crates/marker/stdout"
+SHEETS_STDIN = "crates/sheets/stdin"        # sheets, each with its count of bytes
+SHEETS_STDOUT = "crates/sheets/stdout"
 MOST_RECORDS = 100_000                      # that the program reads
+
+# --- The stored files ---------------------------------------------------------
 
 
 def leaf_files():
@@ -48,24 +62,46 @@ def all_records():
     return [record for group in all_groups().values() for record in group]
 
 
+def record_parts():
+    return [records.as_bytes(record) for record in all_records()]
+
+
 def script_files():
-    stdin = records.as_bytes(all_records())
+    stdin = b"".join(record_parts())
     stdout = leaves.as_bytes(scripts.all_lines() + judged.all_lines())
     assert len(all_records()) < MOST_RECORDS
     return {SCRIPTS_STDIN: stdin, SCRIPTS_STDOUT: stdout}
 
 
+def marker_files():
+    stdin = figures.example_bytes()
+    return {MARKER_STDIN: stdin, MARKER_STDOUT: text.marked_text(stdin)}
+
+
+def sheet_files():
+    return {SHEETS_STDIN: b"".join(sheets.stdin_parts()), SHEETS_STDOUT: b"".join(sheets.texts())}
+
+
 def made_files():
     """Name, relative to the repository's root, to bytes."""
-    return {**leaf_files(), EXAMPLE: leaves.as_bytes(example.lines()), **script_files()}
+    return {**leaf_files(), EXAMPLE: text.judged_text(sheet.EXAMPLE), **script_files(),
+            **marker_files(), **sheet_files()}
+
+
+# --- make, check and groups ---------------------------------------------------
 
 
 def made_count(name, content):
-    if name == SCRIPTS_STDIN:
-        return f"{len(all_records())} records"
     line_count = content.count(b"\n")
-    words = f" (judged: {judged.word_counts()})" if name == SCRIPTS_STDOUT else ""
-    return f"{line_count} lines{words}"
+    lines = f"{line_count} lines"
+    counts = {
+        SCRIPTS_STDIN: lambda: f"{len(all_records())} records",
+        SCRIPTS_STDOUT: lambda: f"{lines} (judged: {judged.word_counts()})",
+        MARKER_STDIN: lambda: "1 sheet",
+        SHEETS_STDIN: sheets.sheets_summary,
+        SHEETS_STDOUT: lambda: f"{lines} ({sheets.texts_summary()})",
+    }
+    return counts[name]() if name in counts else lines
 
 
 def make():
@@ -87,18 +123,27 @@ def line_difference(stored, made):
     return f"{len(stored_lines) - 1} lines stored, {len(made_lines) - 1} made"
 
 
-def record_difference(stored, made):
-    """The same for records, which are not lines; line N of stdout answers record N."""
+PARTS = {   # of the files in which parts are numbered, not lines; `groups` lists them
+    SCRIPTS_STDIN: ("record", record_parts),        # line N of stdout answers record N
+    MARKER_STDIN: ("sheet", lambda: [figures.example_bytes()]),
+    SHEETS_STDIN: ("sheet", sheets.stdin_parts),
+    SHEETS_STDOUT: ("the text of sheet", sheets.texts),
+}
+
+
+def part_difference(name, stored, made):
+    part, parts = PARTS[name]
     for alike, (one, other) in enumerate(zip(stored, made)):
         if one != other:
-            number = records.record_number(all_records(), alike)
-            return f"first in record {number}, after {alike} bytes alike"
+            number = records.part_number(parts(), alike)
+            return f"first in {part} {number}, after {alike} bytes alike"
     return f"{len(stored)} bytes stored, {len(made)} made"
 
 
 def difference(name, stored, made):
-    compare = record_difference if name == SCRIPTS_STDIN else line_difference
-    return compare(stored, made)
+    if name in PARTS:
+        return part_difference(name, stored, made)
+    return line_difference(stored, made)
 
 
 def check():
@@ -121,23 +166,56 @@ def groups():
     for line in records.group_lines(all_groups()):
         print(line)
     print(f"judged: {judged.word_counts()}")
+    print("marker: the one sheet of oracle/example.txt")
+    for line in records.group_lines(sheets.group_cases()):
+        print(f"sheets_{line}")
+    print(f"sheets: {sheets.sheets_summary()}; {sheets.texts_summary()}")
     return 0
 
 
+# --- sheet and text -----------------------------------------------------------
+
+
+def convert(conversion, name):
+    """A file to standard output; a mistake in it is one line on standard error."""
+    try:
+        content = sys.stdin.buffer.read() if name == "-" else Path(name).read_bytes()
+        converted = conversion(content)
+    except (OSError, figures.Mistake) as mistake:
+        print(f"{name}: {mistake}", file=sys.stderr)
+        return 1
+    sys.stdout.buffer.write(converted)
+    return 0
+
+
+# --- The command line ---------------------------------------------------------
+
+VECTOR_COMMANDS = {"make": make, "check": check, "groups": groups}
+FILE_COMMANDS = {
+    "sheet": lambda name: convert(figures.sheet_bytes, name),
+    "text": lambda name: convert(text.marked_text, name),
+    "try": tries.try_program,
+}
+
+
+def self_test(*modules):
+    for module in modules:
+        module.self_test()
+
+
 def main(arguments):
-    commands = {"make": make, "check": check, "groups": groups}
-    if len(arguments) != 1 or arguments[0] not in commands:
+    command, *operands = arguments or [""]
+    known = FILE_COMMANDS if operands else VECTOR_COMMANDS
+    if command not in known or len(operands) > 1:
         print(__doc__.strip(), file=sys.stderr)
         return 2
     if not __debug__:
         print("the oracle's checks are asserts: run it without -O", file=sys.stderr)
         return 2
-    document.self_test()
-    sheet.self_test()
-    judging.self_test()
-    scripts.self_test()
-    judged.self_test()
-    return commands[arguments[0]]()
+    self_test(document, sheet, judging, text, figures, tries)
+    if known is VECTOR_COMMANDS:
+        self_test(scripts, judged, sheets)      # over all vectors, which takes its time
+    return known[command](*operands)
 
 
 sys.exit(main(sys.argv[1:]))

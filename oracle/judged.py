@@ -1,9 +1,10 @@
 """The judging vectors: sheets handed in for judging, in named groups.
 
 A record is one of two: READ, bytes to be read and judged, or FORGE, a sheet built by hand and
-judged as it is (to the program they are MARK and JUDGE). Its line is the answer and then the report, which beside a refusal is one
-stated value. A group yields cases: a case is the records by which one sheet is handed in, and
-`sound`, `short` and `refused` also say, by hand, what the answer to each of them is to be.
+judged as it is (to the program they are MARK and JUDGE). Its line is the answer and then the
+report, which beside a refusal is one stated value. A group yields cases: a case is the records
+by which one sheet is handed in, and `sound`, `short` and `refused` also say, by hand, what the
+answer to each of them is to be.
 `python3 oracle groups` lists the records, and so the lines, of each group.
 """
 
@@ -66,14 +67,12 @@ class Outcome(NamedTuple):
 
 @cache
 def outcome(record):
-    """From bytes: read first, whose refusal is the answer, then judge."""
     if record.opcode == READ:
-        refusal, sheet = model.read(record.payload)
-        if refusal is not None:
-            return Outcome(sheet, refusal, judging.NO_REPORT)
+        sheet, answer = judging.mark(record.payload)
     else:
         sheet = forged(model.bytes_as_figures(record.payload))
-    return Outcome(sheet, *judging.judge(sheet))
+        answer = judging.judge(sheet)
+    return Outcome(sheet, *answer)
 
 
 # --- Making cases -------------------------------------------------------------
@@ -798,10 +797,14 @@ def all_lines():
     return [result.line() for result in all_outcomes()]
 
 
-def word_counts():
+def counted(words):
     """How many are called sound, called short and refused."""
-    counts = Counter(result.word() for result in all_outcomes())
+    counts = Counter(words)
     return ", ".join(f"{counts[word]} {word}" for word in ("sound", "short", "refused"))
+
+
+def word_counts():
+    return counted(result.word() for result in all_outcomes())
 
 
 # --- Self test, over all vectors ----------------------------------------------

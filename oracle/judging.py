@@ -138,6 +138,17 @@ def judge(sheet):
     return Answer(refusal, report_of(sheet) if refusal is None else NO_REPORT)
 
 
+class Marked(NamedTuple):
+    sheet: model.Sheet      # the one judged; where reading refuses, the empty one
+    answer: Answer
+
+
+def mark(content):
+    """Bytes as they are handed in: read first, whose refusal is the answer, then judge."""
+    refusal, sheet = model.read(content)
+    return Marked(sheet, judge(sheet) if refusal is None else Answer(refusal, NO_REPORT))
+
+
 # --- "Demand 3 in fractions" --------------------------------------------------
 
 

@@ -91,26 +91,25 @@ def to_judge(record):
     return record._replace(opcode={READ: MARK, FORGE: JUDGE}[record.opcode])
 
 
-def as_bytes(records):
-    heads = (struct.pack(">BH", record.opcode, len(record.payload)) for record in records)
-    return b"".join(head + record.payload for head, record in zip(heads, records))
+def as_bytes(record):
+    return struct.pack(">BH", record.opcode, len(record.payload)) + record.payload
 
 
-def record_number(records, offset):
-    """The number, from 1, of the record that has the byte at this offset."""
+def part_number(parts, offset):
+    """The number, from 1, of the part that has the byte at this offset."""
     end = 0
-    for number, record in enumerate(records, start=1):
-        end += 3 + len(record.payload)
+    for number, part in enumerate(parts, start=1):
+        end += len(part)
         if offset < end:
             return number
-    return len(records) + 1
+    return len(parts) + 1
 
 
 def group_lines(groups):
-    """Which records, and so which lines, each group has; the name of each gives its records."""
+    """The numbers of what each group has; the name of each gives its records, or its sheets."""
     first = 1
-    for name, records in groups.items():
-        last = first + len(records) - 1
+    for name, members in groups.items():
+        last = first + len(members) - 1
         yield f"{name}: {first} to {last}"
         first = last + 1
 

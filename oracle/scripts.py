@@ -305,6 +305,12 @@ def put_field(content, field, figure, place=0):
     content[start:start + 4] = model.figures_as_bytes((figure,))
 
 
+def exchange(content, one, other):
+    """The figures that start at these two places."""
+    content[one:one + 4], content[other:other + 4] = \
+        content[other:other + 4], content[one:one + 4]
+
+
 def put_length(content, L):
     content[:2] = L.to_bytes(2, "big")
 
@@ -347,26 +353,36 @@ def damaged(damages):
     return read(content)
 
 
-def bytes_order():
-    """11 and 12 cannot be present together. 11 for under two bytes comes alone, as there is no
-    L then and nothing else to be seen (see everything_small). Where 13 is, L gives no n, and
-    so 15 cannot be; the pair is tried all the same. In bytes 31, 32 and 33 cannot be: the tank
-    comes first and once, and courses are at most twelve. The first course is never too high."""
-    yield case("ok", damaged(()))
-    for damage in BYTES_ORDER:
-        yield case(damage[0], damaged((damage,)))
-    for one, other in combinations(BYTES_ORDER, 2):
+def one_or_two(order):
+    """Each damage of an order alone, then each pair. 11 and 12 cannot be present together."""
+    for damage in order:
+        yield (damage,)
+    for one, other in combinations(order, 2):
         if (one[0], other[0]) != ("refused 11", "refused 12"):
-            yield case(one[0], damaged((one, other)))
+            yield one, other
+
+
+def all_at_once(order):
+    """All damages, then all but the first, and so on; without 11, then without 12."""
+    for absent in ("refused 11", "refused 12"):
+        damages = [damage for damage in order if damage[0] != absent]
+        for place in range(len(damages)):
+            yield damages[place:]
+
+
+def bytes_order():
+    """11 for under two bytes comes alone, as there is no L then and nothing else to be seen
+    (see everything_small). Where 13 is, L gives no n, and so 15 cannot be; the pair is tried
+    all the same. In bytes 31, 32 and 33 cannot be: the tank comes first and once, and courses
+    are at most twelve. The first course is never too high."""
+    yield case("ok", damaged(()))
+    for damages in one_or_two(BYTES_ORDER):
+        yield case(damages[0][0], damaged(damages))
 
 
 def bytes_order_all_at_once():
-    """All damages, then all but the first, and so on."""
-    without_11 = [damage for damage in BYTES_ORDER if damage[0] != "refused 11"]
-    without_12 = [damage for damage in BYTES_ORDER if damage[0] != "refused 12"]
-    for damages in (without_11, without_12):
-        for place in range(len(damages)):
-            yield case(damages[place][0], damaged(damages[place:]))
+    for damages in all_at_once(BYTES_ORDER):
+        yield case(damages[0][0], damaged(damages))
 
 
 # --- Groups: 16, 17 and 18 by steps -------------------------------------------
@@ -1076,9 +1092,7 @@ def damage_field(rng, content):
 
 def damage_by_swap(rng, content):
     """Two fields before n change places."""
-    one, other = map(field_at, rng.sample(range(1, 15), 2))
-    content[one:one + 4], content[other:other + 4] = \
-        content[other:other + 4], content[one:one + 4]
+    exchange(content, *map(field_at, rng.sample(range(1, 15), 2)))
 
 
 def random_damage():

@@ -268,7 +268,7 @@ def read(content):
         return Answer(refusal, EMPTY)
     sheet = EMPTY
     for step, figures in steps_in(content):
-        refusal, sheet = take_step(sheet, step, figures)
+        refusal, sheet = next_in_run(sheet, step, figures)
         if refusal is not None:
             return Answer(refusal, EMPTY)
     return Answer(None, sheet)

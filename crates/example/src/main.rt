@@ -1,24 +1,20 @@
-// Document 01's example tank, filled in step by step and judged; its report as the paper's lines.
-mod lines;
-
+// Document 01's example tank, filled in step by step, judged and printed.
 use judge::judging;
+use libc::STDOUT_FILENO;
 use sheet::entries::Anchors;
-use sheet::entries::Answer;
 use sheet::entries::Course;
 use sheet::entries::Sheet;
 use sheet::entries::Site;
 use sheet::entries::Tank;
 use sheet::steps;
+use text::printing;
+use text::printing::MOST_TEXT;
 
 fn main() {
     let judgement = judging::judge(example());
-    let answer = judgement.answer;
-    if let Answer::Refused(r) = answer {
-        lines::refusal(r);
-        return;
-    }
-    let report = judgement.report;
-    lines::report(report);
+    let mut out = [0u8; MOST_TEXT];
+    let printed = printing::print(judgement, &mut out);
+    io::write_all(STDOUT_FILENO, printed.text(&out));
 }
 
 // No step is refused here. With other figures look at each reply's answer: after refused anchors, say,

@@ -1,24 +1,28 @@
--- The words that document 01 prints for the cases of the answers, as bytes (ASCII).
+-- The words that document 01 prints for the cases of the answers, as bytes.
 use mathlib.Core.List.{List, [], _∷_}
+use Prim.Native.Char.{code}
 use Prim.Native.Nat.{ℕ}
+use Prim.Native.String.{String, [] as end, _∷_ as _then_}
 
--- ok, short
+-- the codes of a text's letters, which for ASCII are its bytes
+abbrev pub ascii : String → List ℕ
+ascii end = []
+ascii (c then rest) = code c ∷ ascii rest
+
 abbrev pub ok-word : List ℕ
-ok-word = 0x6f ∷ 0x6b ∷ []
+ok-word = ascii "ok"
 
 abbrev pub short-word : List ℕ
-short-word = 0x73 ∷ 0x68 ∷ 0x6f ∷ 0x72 ∷ 0x74 ∷ []
+short-word = ascii "short"
 
--- none, lift, over
 abbrev pub none-word : List ℕ
-none-word = 0x6e ∷ 0x6f ∷ 0x6e ∷ 0x65 ∷ []
+none-word = ascii "none"
 
 abbrev pub lift-word : List ℕ
-lift-word = 0x6c ∷ 0x69 ∷ 0x66 ∷ 0x74 ∷ []
+lift-word = ascii "lift"
 
 abbrev pub over-word : List ℕ
-over-word = 0x6f ∷ 0x76 ∷ 0x65 ∷ 0x72 ∷ []
+over-word = ascii "over"
 
--- sound (and short)
 abbrev pub sound-word : List ℕ
-sound-word = 0x73 ∷ 0x6f ∷ 0x75 ∷ 0x6e ∷ 0x64 ∷ []
+sound-word = ascii "sound"

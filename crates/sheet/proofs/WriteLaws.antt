@@ -63,7 +63,7 @@ pub layout-length : (t : Tank) (x : Site) (a : Anchors) (cs : List Course) → l
 layout-length t x a cs =
     omega (arith, length-append (headerOf t x a (length cs)) (fours (coursesFigures cs)), header-length t x a (length cs), fours-length (coursesFigures cs), courses-figures-length cs)
 
-all-stored : (l vs : List ℕ) → length vs ≤ length l → sets l 0 vs ≡ vs ++ drop (length vs) l
+pub all-stored : (l vs : List ℕ) → length vs ≤ length l → sets l 0 vs ≡ vs ++ drop (length vs) l
 all-stored l vs h = let z : 0 + length vs ≡ length vs = omega arith in sets-eq vs l 0 (omega arith) ∙ ap (λ (k : ℕ). vs ++ drop k l) z
 
 -- the header, and then the courses

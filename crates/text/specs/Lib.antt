@@ -1,0 +1,5 @@
+pub mod Decimal
+pub mod Text
+pub mod Marking
+pub mod Printing
+pub mod Cases
