@@ -29,15 +29,15 @@ import text
 import tries
 
 ROOT = Path(__file__).resolve().parent.parent
-STDIN = "crates/leaves/stdin"
-STDOUT = "crates/leaves/stdout"
+STDIN = "crates/test_leaves/stdin"
+STDOUT = "crates/test_leaves/stdout"
 EXAMPLE = "crates/example/stdout"
-SCRIPTS_STDIN = "crates/scripts/stdin"      # records, not lines
-SCRIPTS_STDOUT = "crates/scripts/stdout"
+SCRIPTS_STDIN = "crates/test_steps/stdin"      # records, not lines
+SCRIPTS_STDOUT = "crates/test_steps/stdout"
 MARKER_STDIN = "crates/marker/stdin"        # one sheet
 MARKER_STDOUT = "crates/marker/stdout"
-SHEETS_STDIN = "crates/sheets/stdin"        # sheets, each with its count of bytes
-SHEETS_STDOUT = "crates/sheets/stdout"
+SHEETS_STDIN = "crates/test_sheets/stdin"        # sheets, each with its count of bytes
+SHEETS_STDOUT = "crates/test_sheets/stdout"
 MOST_RECORDS = 100_000                      # that the program reads
 
 # --- The stored files ---------------------------------------------------------

@@ -1,11 +1,11 @@
 // Document 01's example tank, filled in step by step, judged and printed.
+use entries::Anchors;
+use entries::Course;
+use entries::Sheet;
+use entries::Site;
+use entries::Tank;
 use judge::judging;
 use libc::STDOUT_FILENO;
-use sheet::entries::Anchors;
-use sheet::entries::Course;
-use sheet::entries::Sheet;
-use sheet::entries::Site;
-use sheet::entries::Tank;
 use sheet::steps;
 use text::printing;
 use text::printing::MOST_TEXT;
@@ -29,7 +29,7 @@ fn example() -> Sheet {
         fy: 36000,
     };
     let site = Site {
-        wind: 105,
+        speed: 105,
         exposure: 109,
         importance: 115,
         vertical: 27,

@@ -6,5 +6,5 @@ mod refusal;
 
 pub use bolt::stress_area;
 pub use range::in_range;
-pub use refusal::Paper;
+pub use refusal::Code;
 pub use refusal::Refusal;

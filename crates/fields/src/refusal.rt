@@ -1,6 +1,6 @@
 // The refusals (document 01, "Refusals that come from the input" and "from the state").
 ghost use mathlib.Core.Path.{_≡_};
-ghost use Rattle.fields.specs.Refusal.{paperOf, plain};
+ghost use Rattle.fields.specs.Refusal.{codeOf, plain};
 
 pub enum Refusal {
     TooFewBytes,
@@ -24,40 +24,40 @@ pub enum Refusal {
 }
 
 // A refusal as document 01 has it: its number, and the field that it gives, or 0 where it gives none.
-pub struct Paper {
+pub struct Code {
     pub number: u32,
     pub field: u32,
 }
 
 // A refusal that gives no field.
-fn numbered(number: u32) -> Paper
+fn plain(number: u32) -> Code
     ensures { λ r. ⌜ r ≡ plain number ⌝ }
 {
-    Paper { number, field: 0 }
+    Code { number, field: 0 }
 }
 
 impl Refusal {
-    pub fn paper(self) -> Paper
-        ensures { λ r. ⌜ r ≡ paperOf self ⌝ }
+    pub fn code(self) -> Code
+        ensures { λ r. ⌜ r ≡ codeOf self ⌝ }
     {
         match self {
-            Refusal::TooFewBytes => numbered(11),
-            Refusal::TooManyBytes => numbered(12),
-            Refusal::BadLength => numbered(13),
-            Refusal::BadVersion => numbered(14),
-            Refusal::BadCount => numbered(15),
-            Refusal::OutOfRange(field) => Paper { number: 16, field },
-            Refusal::AllowanceNotBelowPlate => numbered(17),
-            Refusal::BadAnchors => numbered(18),
-            Refusal::BufferTooShort => numbered(19),
-            Refusal::Unreachable => numbered(30),
-            Refusal::TankStated => numbered(31),
-            Refusal::NoTank => numbered(32),
-            Refusal::CoursesFull => numbered(33),
-            Refusal::ShellTooHigh => numbered(34),
-            Refusal::NoCourse => numbered(35),
-            Refusal::NoSite => numbered(36),
-            Refusal::WaterAboveShell => numbered(37),
+            Refusal::TooFewBytes => plain(11),
+            Refusal::TooManyBytes => plain(12),
+            Refusal::BadLength => plain(13),
+            Refusal::BadVersion => plain(14),
+            Refusal::BadCount => plain(15),
+            Refusal::OutOfRange(field) => Code { number: 16, field },
+            Refusal::AllowanceNotBelowPlate => plain(17),
+            Refusal::BadAnchors => plain(18),
+            Refusal::BufferTooShort => plain(19),
+            Refusal::Unreachable => plain(30),
+            Refusal::TankStated => plain(31),
+            Refusal::NoTank => plain(32),
+            Refusal::CoursesFull => plain(33),
+            Refusal::ShellTooHigh => plain(34),
+            Refusal::NoCourse => plain(35),
+            Refusal::NoSite => plain(36),
+            Refusal::WaterAboveShell => plain(37),
         }
     }
 }

@@ -3,15 +3,16 @@ ghost use mathlib.Core.Path.{_≡_};
 ghost use Prim.Native.Nat.{_≤_};
 ghost use lib.Dec.{T};
 ghost use lib.ListN.{take};
+ghost use Rattle.lists.specs.Pad.{padded};
 ghost use Rattle.rules.specs.Bounds.{mostHeight};
-ghost use Rattle.sheet.specs.Order.{clear};
-ghost use Rattle.sheet.specs.Sheet.{heightOf, tankFlaws, courseFlaws};
-ghost use Rattle.sheet.specs.Steps.{coursesClear};
-ghost use Rattle.judge.specs.Report.{lineOf, linesOf, padded, coursesHold};
-use crate::report::CourseLine;
+ghost use Rattle.entries.specs.Order.{clear};
+ghost use Rattle.entries.specs.Sheet.{heightOf, tankFlaws, courseFlaws};
+ghost use Rattle.parts.specs.Parts.{coursesClear};
+ghost use Rattle.reports.specs.Report.{lineOf, linesOf, blankLine, coursesHold};
+use entries::Course;
+use entries::Tank;
+use reports::report::CourseLine;
 use rules::hoop;
-use sheet::entries::Course;
-use sheet::entries::Tank;
 
 // The line of a course whose bottom edge is at this height.
 fn line(tank: Tank, edge: u32, c: Course) -> CourseLine
@@ -37,7 +38,7 @@ pub(crate) fn lines(tank: Tank, courses: [Course; 12], n: usize) -> [CourseLine;
     requires { ⌜ T (clear (tankFlaws tank)) ⌝ }
     requires { ⌜ T (coursesClear (take n courses)) ⌝ }
     requires { ⌜ heightOf (take n courses) ≤ mostHeight ⌝ }
-    ensures { λ r. ⌜ r ≡ padded (linesOf tank 0 (take n courses)) ⌝ }
+    ensures { λ r. ⌜ r ≡ padded blankLine (linesOf tank 0 (take n courses)) ⌝ }
 {
     let blank = CourseLine::blank();
     let mut all = [blank; 12];

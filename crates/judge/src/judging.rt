@@ -1,47 +1,55 @@
 // The question: is this tank sound? (Document 01, "Filling in" and "Order".)
 ghost use mathlib.Core.Path.{_≡_};
 ghost use Prim.Native.Nat.{_≤_};
-ghost use lib.Dec.{T};
 ghost use lib.ListN.{take};
-ghost use Rattle.rules.specs.Bounds.{mostHeight};
-ghost use Rattle.sheet.specs.Order.{clear, answerPaper};
-ghost use Rattle.sheet.specs.Sheet.{heightOf, tankFlaws, siteFlaws, anchorFlaws};
-ghost use Rattle.sheet.specs.Steps.{coursesClear, openedOf};
-ghost use Rattle.judge.specs.Report.{wordOf, reportOf};
-ghost use Rattle.judge.specs.Judging.{judged, refusedFor, judgePaper};
-ghost use Rattle.judge.specs.Meets.{BornOut};
+ghost use Rattle.entries.specs.Order.{answerCode};
+ghost use Rattle.sheet.specs.Complete.{entriesOf, coursesOf, Valid};
+ghost use Rattle.reports.specs.Report.{wordOf, reportOf};
+ghost use Rattle.reports.specs.Judging.{judged, judgedEntries, judgedCompleted, refusedFor, completedJudgeCode, judgeCode};
+ghost use Rattle.reports.specs.Meets.{Justified};
 use crate::courses;
-use crate::report::CourseLine;
-use crate::report::Judgement;
-use crate::report::Report;
-use crate::report::Standing;
-use crate::report::Word;
 use crate::standing;
+use entries::Answer;
+use entries::Sheet;
 use fields::Refusal;
+use reports::report::CourseLine;
+use reports::report::Judgement;
+use reports::report::Report;
+use reports::report::Standing;
+use reports::report::Word;
 use rules::wind;
-use sheet::entries::Anchors;
-use sheet::entries::Answer;
-use sheet::entries::Course;
-use sheet::entries::Entries;
-use sheet::entries::Opened;
-use sheet::entries::Sheet;
-use sheet::entries::Site;
-use sheet::entries::Tank;
-use sheet::opening;
-use sheet::reach;
+use sheet::complete::Completed;
+use sheet::complete::Completeness;
+use sheet::complete::Entries;
 
 // The report on a sheet, whose word exact fractions bear out. Refused: 30, 32, 35, 36, 37.
 pub fn judge(s: Sheet) -> Judgement
     ensures { λ r. ⌜ r ≡ judged s ⌝ }
-    ensures { λ r. ⌜ answerPaper (r .answer) ≡ judgePaper s ⌝ }
-    ensures { λ r. ⌜ BornOut s r ⌝ }
+    ensures { λ r. ⌜ answerCode (r .answer) ≡ judgeCode s ⌝ }
+    ensures { λ r. ⌜ Justified (entriesOf s) r ⌝ }
 {
-    let opened = opening::opened(s);
-    judge_opened(s, opened)
+    let completed = complete::of_sheet(s);
+    judge_completed(completed)
+}
+
+// The same, given what a sheet is asked first: for questions that have its entries already.
+pub fn judge_completed(c: Completed) -> Judgement
+    requires { ⌜ (c .status ≡ Completeness.Complete → Valid (c .entries)) ⌝ }
+    ensures { λ r. ⌜ r ≡ judgedCompleted c ⌝ }
+    ensures { λ r. ⌜ answerCode (r .answer) ≡ completedJudgeCode c ⌝ }
+    ensures { λ r. ⌜ Justified (c .entries) r ⌝ }
+{
+    let status = c.status;
+    let entries = c.entries;
+    match status {
+        Completeness::Unreachable => without(Refusal::Unreachable),
+        Completeness::Refused(refusal) => without(refusal),
+        Completeness::Complete => judge_entries(entries),
+    }
 }
 
 // No report, for this reason.
-pub(crate) fn without(refusal: Refusal) -> Judgement
+fn without(refusal: Refusal) -> Judgement
     ensures { λ r. ⌜ r ≡ refusedFor refusal ⌝ }
 {
     let report = Report::blank();
@@ -51,57 +59,33 @@ pub(crate) fn without(refusal: Refusal) -> Judgement
     }
 }
 
-// Judging, given what `opening` answered.
-pub(crate) fn judge_opened(s: Sheet, opened: Opened) -> Judgement
-    requires { ⌜ opened ≡ openedOf s ⌝ }
-    ensures { λ r. ⌜ r ≡ judged s ⌝ }
+// Judging the entries of a complete sheet.
+fn judge_entries(e: Entries) -> Judgement
+    requires { ⌜ Valid e ⌝ }
+    ensures { λ r. ⌜ r ≡ judgedEntries e ⌝ }
 {
-    match opened {
-        Opened::Refused(refusal) => without(refusal),
-        Opened::Complete(entries) => judge_complete(s, entries),
-    }
-}
-
-// Judging a complete sheet with these entries.
-fn judge_complete(s: Sheet, entries: Entries) -> Judgement
-    requires { ⌜ openedOf s ≡ Opened.Complete entries ⌝ }
-    ensures { λ r. ⌜ r ≡ judged s ⌝ }
-{
-    let tank = entries.tank;
-    let height = reach::shell_height(s);
-    if height < tank.level as u64 {
+    let tank = e.tank;
+    if e.height < tank.level {
         return without(Refusal::WaterAboveShell);
     }
-    let site = entries.site;
-    let anchors = s.anchors;
-    let courses = s.courses;
-    let report = report(tank, site, anchors, courses, s.count, height as u32);
+    let report = report(e);
     Judgement {
         answer: Answer::Accepted,
         report,
     }
 }
 
-// The report on a tank with the first n courses, whose height this is.
-fn report(
-    tank: Tank,
-    site: Site,
-    anchors: Anchors,
-    courses: [Course; 12],
-    n: usize,
-    height: u32,
-) -> Report
-    requires { ⌜ n ≤ 12 ⌝ }
-    requires { ⌜ T (clear (tankFlaws tank)) ⌝ }
-    requires { ⌜ T (clear (siteFlaws site)) ⌝ }
-    requires { ⌜ T (clear (anchorFlaws (tank .diameter) anchors)) ⌝ }
-    requires { ⌜ T (coursesClear (take n courses)) ⌝ }
-    requires { ⌜ height ≡ heightOf (take n courses) ⌝ }
-    requires { ⌜ height ≤ mostHeight ⌝ }
-    ensures { λ r. ⌜ r ≡ reportOf tank site anchors (take n courses) ⌝ }
+fn report(e: Entries) -> Report
+    requires { ⌜ Valid e ⌝ }
+    ensures { λ r. ⌜ r ≡ reportOf (e .tank) (e .site) (e .anchors) (coursesOf e) ⌝ }
 {
-    let pressure = wind::pressure(site.exposure, site.importance, site.wind);
-    let moment = wind::moment(pressure, tank.diameter, height);
+    let tank = e.tank;
+    let site = e.site;
+    let anchors = e.anchors;
+    let courses = e.courses;
+    let n = e.count;
+    let pressure = wind::pressure(site.exposure, site.importance, site.speed);
+    let moment = wind::moment(pressure, tank.diameter, e.height);
     let lines = courses::lines(tank, courses, n);
     let standing = standing::standing(tank, site, anchors, moment);
     let uses = standing::uses(standing);

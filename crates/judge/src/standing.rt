@@ -3,20 +3,21 @@ ghost use mathlib.Core.Path.{_≡_};
 ghost use Prim.Native.Nat.{_≤_, _<_};
 ghost use lib.Dec.{T};
 ghost use Rattle.rules.specs.Bounds.{mostMoment};
-ghost use Rattle.sheet.specs.Order.{clear};
-ghost use Rattle.sheet.specs.Sheet.{tankFlaws, siteFlaws, anchorFlaws};
-ghost use Rattle.judge.specs.Figures.{resistanceOn};
-ghost use Rattle.judge.specs.Report.{selfChecks, anchorChecks, standingOf, checksOf, stands, usesOf};
-use crate::report::AnchorChecks;
-use crate::report::SelfChecks;
-use crate::report::Standing;
-use crate::report::Uses;
-use rules::anchors;
-use rules::earthquake;
+ghost use Rattle.entries.specs.Order.{clear};
+ghost use Rattle.entries.specs.Sheet.{tankFlaws, siteFlaws, anchorFlaws};
+ghost use Rattle.reports.specs.Figures.{resistanceOn};
+ghost use Rattle.reports.specs.Report.{selfChecks, anchorChecks, standingOf, checksOf, stands, usesOf};
+use entries::Anchors;
+use entries::Site;
+use entries::Tank;
+use reports::report::AnchorChecks;
+use reports::report::Checks;
+use reports::report::SelfChecks;
+use reports::report::Standing;
+use reports::report::Uses;
 use rules::verdict::Verdict;
-use sheet::entries::Anchors;
-use sheet::entries::Site;
-use sheet::entries::Tank;
+use stability::anchors;
+use stability::earthquake;
 
 // T, the resistance to overturning by earthquake, in foot-pounds.
 fn resistance(tank: Tank, site: Site) -> u64
@@ -56,14 +57,14 @@ fn anchor_checks(tank: Tank, site: Site, a: Anchors, moment: u64) -> AnchorCheck
     requires { ⌜ moment ≤ mostMoment ⌝ }
     ensures { λ r. ⌜ r ≡ anchorChecks tank site a moment ⌝ }
 {
-    let wind = anchors::pull(moment, tank.weight, a.circle, a.number);
-    let quake = anchors::pull(site.moment as u64, tank.weight, a.circle, a.number);
+    let wind_pull = anchors::pull(moment, tank.weight, a.circle, a.number);
+    let quake_pull = anchors::pull(site.moment as u64, tank.weight, a.circle, a.number);
     let spacing = anchors::spacing(a.circle, a.number);
-    let larger = anchors::larger(wind, quake);
+    let larger = anchors::larger(wind_pull, quake_pull);
     let strength = anchors::strength(larger, fields::stress_area(a.size));
     AnchorChecks {
-        wind,
-        quake,
+        wind_pull,
+        quake_pull,
         spacing,
         strength,
     }
@@ -80,12 +81,6 @@ pub(crate) fn standing(tank: Tank, site: Site, a: Anchors, moment: u64) -> Stand
         return Standing::SelfAnchored(self_checks(tank, site, moment));
     }
     Standing::Anchored(anchor_checks(tank, site, a, moment))
-}
-
-// The two checks of its way of standing: wind and earthquake, or spacing and strength.
-struct Checks {
-    first: Verdict,
-    second: Verdict,
 }
 
 fn two_checks(s: Standing) -> Checks

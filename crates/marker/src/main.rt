@@ -2,14 +2,14 @@
 // fails counts as the end of the input.
 use libc::STDIN_FILENO;
 use libc::STDOUT_FILENO;
-use text::marking;
-use text::marking::MOST_BYTES;
+use text::marker;
+use text::marker::MOST_BYTES;
 use text::printing::MOST_TEXT;
 
 fn main() {
     let mut bytes = [0u8; MOST_BYTES];
     let n = io::read_full(STDIN_FILENO, &mut bytes);
     let mut out = [0u8; MOST_TEXT];
-    let printed = marking::mark(&bytes[..n], &mut out);
+    let printed = marker::mark(&bytes[..n], &mut out);
     io::write_all(STDOUT_FILENO, printed.text(&out));
 }

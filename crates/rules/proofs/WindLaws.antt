@@ -11,7 +11,7 @@ use Rattle.exact.proofs.QuotientLaws.{up-safe, up-near}
 use Rattle.fields.specs.Range.{range, within}
 use Rattle.fields.specs.declared.refusal.Refusal.the-variants.{OutOfRange}
 use Rattle.rules.specs.declared.wind.SitePressure.the-variants.{Given, Refused}
-use Rattle.rules.specs.Wind.{pressureExact, pressureOf, momentExact, momentOf, momentMargin, standardSite, standardAnswer, said, answerOf}
+use Rattle.rules.specs.Wind.{pressureExact, pressureOf, momentExact, momentOf, momentMargin, standardSite, standardCode, siteCode, siteCodeOf}
 
 pub pressure-rounded : (Kz I v : ℕ) → AtLeast (pressureExact Kz I v) (whole 1) (pressureOf Kz I v)
 unfolding pressureExact pressureOf
@@ -62,10 +62,10 @@ unfolding momentMargin
 moment-margin-den D Hs = omega arith
 
 -- what the standard site's answer says: the pressure, or refusal 16 with field 7
-pub standard-says : (v : ℕ) → answerOf (standardSite v) ≡ standardAnswer v
-unfolding standardSite standardAnswer
-standard-says v = go (within (range 7) v)
+pub standard-code : (v : ℕ) → siteCodeOf (standardSite v) ≡ standardCode v
+unfolding standardSite standardCode
+standard-code v = go (within (range 7) v)
   where
-    go : (b : Bool) → answerOf (cond b (Given (pressureOf 109 115 v)) (Refused (OutOfRange 7))) ≡ cond b (said 0 (pressureOf 109 115 v)) (said 16 7)
+    go : (b : Bool) → siteCodeOf (cond b (Given (pressureOf 109 115 v)) (Refused (OutOfRange 7))) ≡ cond b (siteCode 0 (pressureOf 109 115 v)) (siteCode 16 7)
     go true = refl
     go false = refl

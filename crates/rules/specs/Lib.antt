@@ -2,6 +2,4 @@ pub mod Words
 pub mod Verdict
 pub mod Hoop
 pub mod Wind
-pub mod Earthquake
-pub mod Anchors
 pub mod Bounds

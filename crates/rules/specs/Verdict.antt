@@ -17,7 +17,7 @@ useOf need capacity = round binary64 false need capacity
 unfoldable pub verdictOf : ℕ → ℕ → Verdict
 verdictOf need capacity = cond (leb need capacity) (Holds (useOf need capacity)) (Short (useOf need capacity))
 
--- What each case of a verdict says on paper: its word and its use; and whether the check holds.
+-- What each case of a verdict says in print: its word and its use; and whether the check holds.
 abbrev pub verdictWord : Verdict → List ℕ
 verdictWord (Holds u) = ok-word
 verdictWord (Short u) = short-word
@@ -31,6 +31,6 @@ holds (Holds u) = true
 holds (Short u) = false
 
 -- so, of a need and a capacity
-pub record Says (need capacity : ℕ) (v : Verdict) : Type 0 where
+pub record VerdictFor (need capacity : ℕ) (v : Verdict) : Type 0 where
   pub word : verdictWord v ≡ cond (leb need capacity) ok-word short-word
   pub use-is : used v ≡ useOf need capacity

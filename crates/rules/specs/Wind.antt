@@ -4,7 +4,7 @@ use mathlib.Core.Bool.{cond}
 use Prim.Native.Nat.{ℕ, _+_, _*_, max}
 use Rattle.exact.specs.Quotient.{Ratio, upOf}
 use Rattle.fields.specs.Range.{range, within}
-use Rattle.fields.specs.Refusal.{paperOf}
+use Rattle.fields.specs.Refusal.{codeOf}
 use Rattle.fields.specs.declared.refusal.Refusal.the-variants.{OutOfRange}
 use Rattle.rules.specs.declared.wind.SitePressure.{SitePressure}
 use Rattle.rules.specs.declared.wind.SitePressure.the-variants.{Given, Refused}
@@ -37,18 +37,18 @@ bySpeed v given refused = cond (within (range 7) v) (given (pressureOf 109 115 v
 unfoldable pub standardSite : ℕ → SitePressure
 standardSite v = bySpeed v Given (Refused (OutOfRange 7))
 
--- What each case of the answer says on paper: 0 and the pressure, or the refusal's number and field.
-pub record Answer : Type 0 where
+-- What each case of the answer is by code: 0 and the pressure, or the refusal's number and field.
+pub record SiteCode : Type 0 where
   pub number : ℕ
   pub value : ℕ
 
-abbrev pub said : ℕ → ℕ → Answer
-said n x = record { number = n; value = x }
+abbrev pub siteCode : ℕ → ℕ → SiteCode
+siteCode n x = record { number = n; value = x }
 
-abbrev pub answerOf : SitePressure → Answer
-answerOf (Given p) = said 0 p
-answerOf (Refused r) = said (paperOf r .number) (paperOf r .field)
+abbrev pub siteCodeOf : SitePressure → SiteCode
+siteCodeOf (Given p) = siteCode 0 p
+siteCodeOf (Refused r) = siteCode (codeOf r .number) (codeOf r .field)
 
 -- so, of the standard site: its pressure, or 16 with field 7
-unfoldable pub standardAnswer : ℕ → Answer
-standardAnswer v = bySpeed v (said 0) (said 16 7)
+unfoldable pub standardCode : ℕ → SiteCode
+standardCode v = bySpeed v (siteCode 0) (siteCode 16 7)

@@ -1,13 +1,7 @@
 -- The words that document 01 prints for the cases of the answers, as bytes.
-use mathlib.Core.List.{List, [], _∷_}
-use Prim.Native.Char.{code}
+use mathlib.Core.List.{List}
 use Prim.Native.Nat.{ℕ}
-use Prim.Native.String.{String, [] as end, _∷_ as _then_}
-
--- the codes of a text's letters, which for ASCII are its bytes
-abbrev pub ascii : String → List ℕ
-ascii end = []
-ascii (c then rest) = code c ∷ ascii rest
+use Rattle.lists.specs.Ascii.{ascii}
 
 abbrev pub ok-word : List ℕ
 ok-word = ascii "ok"

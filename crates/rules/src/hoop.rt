@@ -4,8 +4,9 @@ ghost use Prim.Native.Nat.{_≤_};
 ghost use Rattle.fields.specs.Range.{In};
 ghost use Rattle.rules.specs.Bounds.{mostHeight, mostNeed, mostRequired};
 ghost use Rattle.rules.specs.Hoop.{headOf, hoopNeed, plateFloor, requiredPlate, courseVerdict};
+ghost use Rattle.rules.specs.Verdict.{VerdictFor};
 use crate::verdict::Verdict;
-use crate::verdict::judged;
+use crate::verdict::verdict_of;
 
 // The height of the water over a course's bottom edge, or 0.
 pub fn head(level: u32, edge: u32) -> u32
@@ -60,6 +61,7 @@ pub fn check(required: u64, plate: u32) -> Verdict
     requires { ⌜ required ≤ mostRequired ⌝ }
     requires { ⌜ In 16 plate ⌝ }
     ensures { λ r. ⌜ r ≡ courseVerdict required plate ⌝ }
+    ensures { λ r. ⌜ VerdictFor required plate r ⌝ }
 {
-    judged(required, plate as u64)
+    verdict_of(required, plate as u64)
 }

@@ -1,8 +1,6 @@
-// The rules of document 01, one module to a subject, a function to a figure. A function asks that its
-// fields are in range and that the figures handed to it are at most what the rules can give; nothing
-// here knows of sheets.
-pub mod anchors;
-pub mod earthquake;
+// Plate and wind by document 01, one module to a subject, a function to a figure; and the verdict of a
+// check. A function asks that its fields are in range and that the figures handed to it are at most what the
+// rules can give; nothing here knows of sheets.
 pub mod hoop;
 pub mod verdict;
 pub mod wind;

@@ -1,7 +1,7 @@
 // Whether a check holds, with its use.
 ghost use mathlib.Core.Path.{_≡_};
 ghost use Rattle.exact.specs.Sides.{Sides};
-ghost use Rattle.rules.specs.Verdict.{verdictOf, holds, used, Says};
+ghost use Rattle.rules.specs.Verdict.{verdictOf, holds, used, VerdictFor};
 
 // Whether the check holds or falls short, with its use.
 pub enum Verdict {
@@ -9,10 +9,10 @@ pub enum Verdict {
     Short(f64),
 }
 
-pub fn judged(need: u64, capacity: u64) -> Verdict
+pub fn verdict_of(need: u64, capacity: u64) -> Verdict
     requires { ⌜ Sides need capacity ⌝ }
     ensures { λ r. ⌜ r ≡ verdictOf need capacity ⌝ }
-    ensures { λ r. ⌜ Says need capacity r ⌝ }
+    ensures { λ r. ⌜ VerdictFor need capacity r ⌝ }
 {
     let quotient = exact::nearest(need, capacity);
     if need <= capacity {

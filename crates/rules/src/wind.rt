@@ -3,7 +3,7 @@ ghost use mathlib.Core.Path.{_≡_};
 ghost use Prim.Native.Nat.{_≤_};
 ghost use Rattle.fields.specs.Range.{In};
 ghost use Rattle.rules.specs.Bounds.{mostHeight, mostPressure};
-ghost use Rattle.rules.specs.Wind.{pressureOf, momentOf, standardSite, standardAnswer, answerOf};
+ghost use Rattle.rules.specs.Wind.{pressureOf, momentOf, standardSite, standardCode, siteCodeOf};
 use fields::Refusal;
 
 // The pressure in hundredths of a psf.
@@ -137,7 +137,7 @@ const CHART: [u64; 91] = [
 // The standard site's pressure, from the chart.
 pub fn standard_site(speed: u32) -> SitePressure
     ensures { λ r. ⌜ r ≡ standardSite speed ⌝ }
-    ensures { λ r. ⌜ answerOf r ≡ standardAnswer speed ⌝ }
+    ensures { λ r. ⌜ siteCodeOf r ≡ standardCode speed ⌝ }
 {
     if !fields::in_range(7, speed) {
         return SitePressure::Refused(Refusal::OutOfRange(7));

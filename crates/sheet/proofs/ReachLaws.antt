@@ -14,22 +14,24 @@ use mir.Facts.{and-yes, yes-and, leb-yes, yes-leb, eqb-yes, yes-eqb}
 use borrow.Author.Tests.{leb-false, ltb-false}
 use Rattle.fields.specs.Range.{between, within}
 use Rattle.fields.specs.declared.refusal.Refusal.the-variants.{TankStated, NoTank, CoursesFull}
-use Rattle.sheet.specs.Order.{_when_, firstOf, clear}
-use Rattle.sheet.specs.Sheet.{tooHigh, noAnchors, anchorFigures, courseFigures, blankCourse, emptySheet, held, heightOf, badAnchors, tankFlaws, siteFlaws, anchorFlaws, courseFlaws, tankOf}
-use Rattle.sheet.specs.Steps.{Step, stateTank, stateSite, stateAnchors, addCourse, tankBlank, orderOf, filled, replied, taken, run, blank, siteBlank, siteClear, coursesClear, coursesBlank, slotsReachable, partsReachable, reachable}
-use Rattle.sheet.specs.declared.entries.Tank.{Tank}
-use Rattle.sheet.specs.declared.entries.Site.{Site}
-use Rattle.sheet.specs.declared.entries.Anchors.{Anchors}
-use Rattle.sheet.specs.declared.entries.Course.{Course}
-use Rattle.sheet.specs.declared.entries.TankEntry as TankEntry
-use Rattle.sheet.specs.declared.entries.SiteEntry as SiteEntry
-use Rattle.sheet.specs.declared.entries.Sheet.{Sheet}
-use Rattle.sheet.specs.declared.entries.Reply.{Reply}
-use Rattle.sheet.specs.declared.entries.Answer.{Answer}
-use Rattle.sheet.specs.declared.entries.Answer.the-variants.{Accepted, Refused}
-use Rattle.sheet.proofs.OrderLaws.{clash, accepted-clear, first-cons, first-append}
-use Rattle.sheet.proofs.EachLaws.{append-each}
-use Rattle.sheet.proofs.CourseLaws.{height-append}
+use Rattle.entries.specs.Order.{_when_, firstOf, clear}
+use Rattle.entries.specs.Sheet.{tooHigh, noAnchors, anchorFigures, courseFigures, blankCourse, emptySheet, held, heightOf, badAnchors, tankFlaws, siteFlaws, anchorFlaws, courseFlaws, tankOf}
+use Rattle.parts.specs.Parts.{blank, siteBlank, siteClear, coursesClear, coursesBlank, slotsReachable, partsReachable}
+use Rattle.sheet.specs.Steps.{Step, stateTank, stateSite, stateAnchors, addCourse, tankBlank, orderOf, filled, replied, applied, run, reachable}
+use Rattle.entries.specs.declared.sheet.Tank.{Tank}
+use Rattle.entries.specs.declared.sheet.Site.{Site}
+use Rattle.entries.specs.declared.sheet.Anchors.{Anchors}
+use Rattle.entries.specs.declared.sheet.Course.{Course}
+use Rattle.entries.specs.declared.sheet.TankEntry as TankEntry
+use Rattle.entries.specs.declared.sheet.SiteEntry as SiteEntry
+use Rattle.entries.specs.declared.sheet.Sheet.{Sheet}
+use Rattle.sheet.specs.declared.steps.Reply.{Reply}
+use Rattle.entries.specs.declared.answer.Answer.{Answer}
+use Rattle.entries.specs.declared.answer.Answer.the-variants.{Accepted, Refused}
+use Rattle.lists.proofs.BoolLaws.{three-yes, yes-three}
+use Rattle.entries.proofs.OrderLaws.{clash, accepted-clear, first-cons, first-append}
+use Rattle.lists.proofs.EachLaws.{append-each}
+use Rattle.entries.proofs.CourseLaws.{height-append}
 
 -- ---- what the test says
 
@@ -39,18 +41,6 @@ pub record Slots (cs : List Course) (n : ℕ) : Type 0 where
   pub clear : T (coursesClear (take n cs))
   pub low : heightOf (take n cs) ≤ 76800
   pub rest : T (coursesBlank (drop n cs))
-
--- several tests at once
-pub T-true : (b : Bool) → T b → b ≡ true
-T-true true t = refl
-T-true false t = absurd t
-
-module _ (a b c : Bool) where
-  pub three-yes : T (a && b && c) → T a × T b × T c
-  three-yes h = let d = and-yes (a && b) c h in let e = and-yes a b (d .0) in (e .0, e .1, d .1)
-
-  pub yes-three : T a → T b → T c → T (a && b && c)
-  yes-three x y z = yes-and (a && b) c (yes-and a b x y) z
 
 module _ (cs : List Course) (n : ℕ) where
   abbrev p : Bool
@@ -189,8 +179,8 @@ module _ (s : Sheet) (h : T (reachable s)) where
       (held-parts d (s .site) (s .anchors) (s .count + 1) (parts-held d .1) (parts-held d .2))
 
   -- A STEP ON A SHEET THAT PASSES THE TEST LEAVES ONE THAT DOES
-  pub step-reachable : (x : Step) → T (reachable (taken s x .sheet))
-  unfolding taken
+  pub step-reachable : (x : Step) → T (reachable (applied s x .sheet))
+  unfolding applied
   step-reachable x = go (firstOf (orderOf s x)) (filled-reachable x)
     where
       go : (a : Answer) → (a ≡ Accepted → T (reachable (filled s x))) → T (reachable (replied a s (filled s x) .sheet))
@@ -198,9 +188,9 @@ module _ (s : Sheet) (h : T (reachable s)) where
       go (Refused r) f = h
 
 -- a step that is accepted
-pub taken-accepted : (s : Sheet) (x : Step) → taken s x .answer ≡ Accepted → (firstOf (orderOf s x) ≡ Accepted) × (taken s x .sheet ≡ filled s x)
-unfolding taken
-taken-accepted s x e = go (firstOf (orderOf s x)) e
+pub applied-accepted : (s : Sheet) (x : Step) → applied s x .answer ≡ Accepted → (firstOf (orderOf s x) ≡ Accepted) × (applied s x .sheet ≡ filled s x)
+unfolding applied
+applied-accepted s x e = go (firstOf (orderOf s x)) e
   where
     go : (a : Answer) → replied a s (filled s x) .answer ≡ Accepted → (a ≡ Accepted) × (replied a s (filled s x) .sheet ≡ filled s x)
     go Accepted e = (refl, refl)
@@ -215,16 +205,16 @@ held-next s c h e =
     rw (add-one (s .count)) (take-suc-set (s .courses) (s .count) c (omega (arith, f, reach-slots s h .twelve)))
 
 -- a course that is accepted adds its width
-pub added-height : (s : Sheet) (c : Course) (y : Reply) → y ≡ taken s (addCourse c) → T (reachable s) → y .answer ≡ Accepted
+pub added-height : (s : Sheet) (c : Course) (y : Reply) → y ≡ applied s (addCourse c) → T (reachable s) → y .answer ≡ Accepted
     → heightOf (held (y .sheet)) ≡ heightOf (held s) + c .width
 added-height s c y e h a =
-    let t = taken-accepted s (addCourse c) (ap (λ (z : Reply). z .answer) (sym e) ∙ a) in
+    let t = applied-accepted s (addCourse c) (ap (λ (z : Reply). z .answer) (sym e) ∙ a) in
     ap (λ (z : Reply). heightOf (held (z .sheet))) e
     ∙ ap (λ (z : Sheet). heightOf (held z)) (t .1)
     ∙ ap heightOf (held-next s c h (t .0))
     ∙ omega (arith, height-append (held s) (c ∷ []))
 
-pub reply-reachable : (s : Sheet) (x : Step) (y : Reply) → y ≡ taken s x → T (reachable s) → T (reachable (y .sheet))
+pub reply-reachable : (s : Sheet) (x : Step) (y : Reply) → y ≡ applied s x → T (reachable s) → T (reachable (y .sheet))
 reply-reachable s x y e h = subst (λ (z : Reply). T (reachable (z .sheet))) (sym e) (step-reachable s h x)
 
 pub empty-reachable : T (reachable emptySheet)
@@ -233,4 +223,4 @@ empty-reachable = tt
 
 pub run-reachable : (xs : List Step) (s : Sheet) → T (reachable s) → T (reachable (run s xs))
 run-reachable [] s h = h
-run-reachable (x ∷ xs) s h = run-reachable xs (taken s x .sheet) (step-reachable s h x)
+run-reachable (x ∷ xs) s h = run-reachable xs (applied s x .sheet) (step-reachable s h x)

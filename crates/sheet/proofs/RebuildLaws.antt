@@ -5,39 +5,40 @@ use mathlib.Core.Path.{_≡_, refl, sym, ap, _∙_, subst}
 use mathlib.Core.Bool.{Bool, true}
 use mathlib.Core.List.{List, [], _∷_, _++_, map, append-nil}
 use mathlib.Core.Logic.{_↔_}
-use Prim.Native.Nat.{ℕ, suc, _+_, _-_, _≤_, _<_}
+use Prim.Native.Nat.{ℕ, _+_, _-_, _≤_, _<_}
 use native.Mathlib.Omega.{arith}
 use lib.Dec.{T, eqb}
-use lib.ListN.{length, take, drop, set, replicate, take-append-drop, length-append, length-drop}
-use lib.Seq.{length-take-le, set-append-seam, take-append-seam, append-snoc}
+use lib.ListN.{length, take, drop, replicate, take-append-drop, length-append, length-drop}
+use lib.Seq.{length-take-le, take-append-seam, append-snoc}
 use mir.Facts.{and-yes, eqb-yes}
 use borrow.Author.Tests.{le-ltb}
 use Rattle.fields.specs.declared.refusal.Refusal.{Refusal}
-use Rattle.sheet.specs.Order.{clear}
-use Rattle.sheet.specs.Sheet.{anchorFigures, courseFigures, noAnchors, blankCourse, emptySheet, held, heightOf, tankFlaws, siteFlaws, anchorFlaws, courseFlaws}
-use Rattle.sheet.specs.Steps.{Step, stateTank, stateSite, stateAnchors, addCourse, accepted, refused, taken, run, LeftByRun, blank, siteBlank, siteClear, coursesClear, coursesBlank, partsReachable, reachable, unless, inTurn}
-use Rattle.sheet.specs.declared.entries.Tank.{Tank}
-use Rattle.sheet.specs.declared.entries.Site.{Site}
-use Rattle.sheet.specs.declared.entries.Anchors.{Anchors}
-use Rattle.sheet.specs.declared.entries.Course.{Course}
-use Rattle.sheet.specs.declared.entries.TankEntry as TankEntry
-use Rattle.sheet.specs.declared.entries.SiteEntry as SiteEntry
-use Rattle.sheet.specs.declared.entries.Sheet.{Sheet}
-use Rattle.sheet.specs.declared.entries.Reply.{Reply}
-use Rattle.sheet.specs.declared.entries.Answer.{Answer}
-use Rattle.sheet.specs.declared.entries.Answer.the-variants.{Accepted, Refused}
-use Rattle.sheet.proofs.OrderLaws.{clash, clear-accepted}
-use Rattle.sheet.proofs.CourseLaws.{height-append}
-use Rattle.sheet.proofs.StepLaws.{tank-taken, site-taken, anchors-taken, course-taken}
-use Rattle.sheet.proofs.ReachLaws.{anchors-blank, Slots, Held, three-yes, reach-halves, reach-slots, parts-held, empty-reachable, run-reachable}
+use Rattle.entries.specs.Order.{clear}
+use Rattle.entries.specs.Sheet.{anchorFigures, courseFigures, noAnchors, blankCourse, emptySheet, held, heightOf, tankFlaws, siteFlaws, anchorFlaws, courseFlaws}
+use Rattle.parts.specs.Parts.{blank, siteBlank, siteClear, coursesClear, coursesBlank, partsReachable}
+use Rattle.sheet.specs.Steps.{Step, stateTank, stateSite, stateAnchors, addCourse, accepted, refused, applied, run, LeftByRun, reachable, unless, inTurn}
+use Rattle.entries.specs.declared.sheet.Tank.{Tank}
+use Rattle.entries.specs.declared.sheet.Site.{Site}
+use Rattle.entries.specs.declared.sheet.Anchors.{Anchors}
+use Rattle.entries.specs.declared.sheet.Course.{Course}
+use Rattle.entries.specs.declared.sheet.TankEntry as TankEntry
+use Rattle.entries.specs.declared.sheet.SiteEntry as SiteEntry
+use Rattle.entries.specs.declared.sheet.Sheet.{Sheet}
+use Rattle.sheet.specs.declared.steps.Reply.{Reply}
+use Rattle.entries.specs.declared.answer.Answer.{Answer}
+use Rattle.entries.specs.declared.answer.Answer.the-variants.{Accepted, Refused}
+use Rattle.lists.specs.Pad.{padded}
+use Rattle.lists.proofs.BoolLaws.{three-yes}
+use Rattle.lists.proofs.PadLaws.{padded-next}
+use Rattle.entries.proofs.OrderLaws.{clash, clear-accepted}
+use Rattle.entries.proofs.CourseLaws.{height-append}
+use Rattle.sheet.proofs.StepLaws.{tank-applied, site-applied, anchors-applied, course-applied}
+use Rattle.sheet.proofs.ReachLaws.{anchors-blank, Slots, Held, reach-halves, reach-slots, parts-held, empty-reachable, run-reachable}
 
 -- ---- a reachable sheet is its parts, with blank slots behind its courses
 
-abbrev pub padded : List Course → List Course
-padded h = h ++ replicate (12 - length h) blankCourse
-
 abbrev pub sheetOf : TankEntry.TankEntry → SiteEntry.SiteEntry → Anchors → List Course → Sheet
-sheetOf e x a h = record { tank = e; site = x; anchors = a; courses = padded h; count = length h }
+sheetOf e x a h = record { tank = e; site = x; anchors = a; courses = padded blankCourse h; count = length h }
 
 blank-course : (c : Course) → T (blank (courseFigures c)) → c ≡ blankCourse
 blank-course c h =
@@ -70,7 +71,7 @@ module _ (s : Sheet) (h : T (reachable s)) where
   pub held-length : length (held s) ≡ s .count
   held-length = length-take-le (s .count) (s .courses) (omega (arith, slots .few, slots .twelve))
 
-  courses-padded : s .courses ≡ padded (held s)
+  courses-padded : s .courses ≡ padded blankCourse (held s)
   courses-padded =
       let n : length (drop (s .count) (s .courses)) ≡ 12 - length (held s)
       = omega (arith, held-length, length-drop (s .count) (s .courses), slots .twelve, slots .few) in
@@ -80,36 +81,26 @@ module _ (s : Sheet) (h : T (reachable s)) where
   pub as-parts : s ≡ sheetOf (s .tank) (s .site) (s .anchors) (held s)
   as-parts =
       ap (λ (l : List Course). record { tank = s .tank; site = s .site; anchors = s .anchors; courses = l; count = s .count }) courses-padded
-      ∙ ap (λ (n : ℕ). record { tank = s .tank; site = s .site; anchors = s .anchors; courses = padded (held s); count = n }) (sym held-length)
+      ∙ ap (λ (n : ℕ). record { tank = s .tank; site = s .site; anchors = s .anchors; courses = padded blankCourse (held s); count = n }) (sym held-length)
 
 -- ---- it is rebuilt from the empty sheet
 
 -- steps in turn, all of them accepted
-in-turn-next : (s t : Sheet) (x : Step) (xs : List Step) (r : Reply) → taken s x ≡ accepted t → inTurn t xs ≡ r → inTurn s (x ∷ xs) ≡ r
+in-turn-next : (s t : Sheet) (x : Step) (xs : List Step) (r : Reply) → applied s x ≡ accepted t → inTurn t xs ≡ r → inTurn s (x ∷ xs) ≡ r
 in-turn-next s t x xs r e f = ap (λ (y : Reply). unless (y .answer) (inTurn (y .sheet) xs)) e ∙ f
-
-pad-next : (h : List Course) (c : Course) → length h < 12 → set (padded h) (length h) c ≡ padded (h ++ c ∷ [])
-pad-next h c l =
-    let m = 12 - suc (length h) in
-    let e : 12 - length h ≡ suc m = omega arith in
-    let f : 12 - length (h ++ c ∷ []) ≡ m = omega (arith, length-append h (c ∷ [])) in
-    ap (λ (k : ℕ). set (h ++ replicate k blankCourse) (length h) c) e
-    ∙ set-append-seam h blankCourse (replicate m blankCourse) c
-    ∙ sym (append-snoc h c (replicate m blankCourse))
-    ∙ ap (λ (k : ℕ). (h ++ c ∷ []) ++ replicate k blankCourse) (sym f)
 
 module _ (t : Tank) (x : SiteEntry.SiteEntry) (a : Anchors) where
   abbrev with : List Course → Sheet
   with h = sheetOf (TankEntry.the-variants.Filled t) x a h
 
   course-added : (h : List Course) (c : Course) → length h < 12 → T (clear (courseFlaws c)) → heightOf h + c .width ≤ 76800
-      → taken (with h) (addCourse c) ≡ accepted (with (h ++ c ∷ []))
+      → applied (with h) (addCourse c) ≡ accepted (with (h ++ c ∷ []))
   course-added h c l k m =
       let n : length h + 1 ≡ length (h ++ c ∷ []) = omega (arith, length-append h (c ∷ [])) in
-      course-taken (with h) t refl c l
+      course-applied (with h) t refl c l
       ∙ rw (clear-accepted (courseFlaws c) k, take-append-seam h (replicate (12 - length h) blankCourse), le-ltb _ _ m)
-      (ap (λ (l : List Course). accepted (record { tank = TankEntry.the-variants.Filled t; site = x; anchors = a; courses = l; count = length h + 1 })) (pad-next h c l)
-      ∙ ap (λ (n : ℕ). accepted (record { tank = TankEntry.the-variants.Filled t; site = x; anchors = a; courses = padded (h ++ c ∷ []); count = n })) n)
+      (ap (λ (l : List Course). accepted (record { tank = TankEntry.the-variants.Filled t; site = x; anchors = a; courses = l; count = length h + 1 })) (padded-next blankCourse h c (length h) refl l)
+      ∙ ap (λ (n : ℕ). accepted (record { tank = TankEntry.the-variants.Filled t; site = x; anchors = a; courses = padded blankCourse (h ++ c ∷ []); count = n })) n)
 
   courses-added : (rest h : List Course) → length h + length rest ≤ 12 → T (coursesClear rest) → heightOf h + heightOf rest ≤ 76800
       → inTurn (with h) (map addCourse rest) ≡ accepted (with (h ++ rest))
@@ -134,16 +125,16 @@ module _ (t : Tank) where
   abbrev bare : SiteEntry.SiteEntry → Anchors → Sheet
   bare x a = sheetOf (TankEntry.the-variants.Filled t) x a []
 
-  tank-first : T (clear (tankFlaws t)) → taken emptySheet (stateTank t) ≡ accepted (bare SiteEntry.the-variants.Blank noAnchors)
-  tank-first k = tank-taken emptySheet refl t ∙ rw (clear-accepted (tankFlaws t) k)
+  tank-first : T (clear (tankFlaws t)) → applied emptySheet (stateTank t) ≡ accepted (bare SiteEntry.the-variants.Blank noAnchors)
+  tank-first k = tank-applied emptySheet refl t ∙ rw (clear-accepted (tankFlaws t) k)
 
   site-next : (x : Site) → T (clear (siteFlaws x))
-      → taken (bare SiteEntry.the-variants.Blank noAnchors) (stateSite x) ≡ accepted (bare (SiteEntry.the-variants.Filled x) noAnchors)
-  site-next x k = site-taken (bare SiteEntry.the-variants.Blank noAnchors) t refl x ∙ rw (clear-accepted (siteFlaws x) k)
+      → applied (bare SiteEntry.the-variants.Blank noAnchors) (stateSite x) ≡ accepted (bare (SiteEntry.the-variants.Filled x) noAnchors)
+  site-next x k = site-applied (bare SiteEntry.the-variants.Blank noAnchors) t refl x ∙ rw (clear-accepted (siteFlaws x) k)
 
   anchors-next : (x : SiteEntry.SiteEntry) (a : Anchors) → T (clear (anchorFlaws (t .diameter) a))
-      → taken (bare x noAnchors) (stateAnchors a) ≡ accepted (bare x a)
-  anchors-next x a k = anchors-taken (bare x noAnchors) t refl a ∙ rw (clear-accepted (anchorFlaws (t .diameter) a) k)
+      → applied (bare x noAnchors) (stateAnchors a) ≡ accepted (bare x a)
+  anchors-next x a k = anchors-applied (bare x noAnchors) t refl a ∙ rw (clear-accepted (anchorFlaws (t .diameter) a) k)
 
   sites-next : (x : SiteEntry.SiteEntry) (xs : List Step) (r : Reply) → T (siteClear x) → inTurn (bare x noAnchors) xs ≡ r
       → inTurn (bare SiteEntry.the-variants.Blank noAnchors) (siteSteps x ++ xs) ≡ r
@@ -179,10 +170,10 @@ refused-accepted r s t e = clash (ap (λ (y : Reply). y .answer) e)
 
 pub in-turn-run : (xs : List Step) (s t : Sheet) → inTurn s xs ≡ accepted t → run s xs ≡ t
 in-turn-run [] s t e = ap (λ (r : Reply). r .sheet) e
-in-turn-run (x ∷ xs) s t e = go (taken s x .answer) (in-turn-run xs (taken s x .sheet) t) e
+in-turn-run (x ∷ xs) s t e = go (applied s x .answer) (in-turn-run xs (applied s x .sheet) t) e
   where
-    go : (a : Answer) → (inTurn (taken s x .sheet) xs ≡ accepted t → run (taken s x .sheet) xs ≡ t)
-        → unless a (inTurn (taken s x .sheet) xs) ≡ accepted t → run (taken s x .sheet) xs ≡ t
+    go : (a : Answer) → (inTurn (applied s x .sheet) xs ≡ accepted t → run (applied s x .sheet) xs ≡ t)
+        → unless a (inTurn (applied s x .sheet) xs) ≡ accepted t → run (applied s x .sheet) xs ≡ t
     go Accepted f e = f e
     go (Refused r) f e = absurd (refused-accepted r emptySheet t e)
 
@@ -215,5 +206,5 @@ pub left-exactly : (s : Sheet) → T (reachable s) ↔ LeftByRun s
 left-exactly s =
     (reachable-left s (s .tank) refl, λ l. subst (λ (t : Sheet). T (reachable t)) (l .leaves) (run-reachable (l .steps) emptySheet empty-reachable))
 
-pub left-told : (s : Sheet) {b : Bool} → b ≡ reachable s → (b ≡ reachable s) × (T b ↔ LeftByRun s)
-left-told s {b} e = (e, subst (λ (z : Bool). T z ↔ LeftByRun s) (sym e) (left-exactly s))
+pub left-clauses : (s : Sheet) {b : Bool} → b ≡ reachable s → (b ≡ reachable s) × (T b ↔ LeftByRun s)
+left-clauses s {b} e = (e, subst (λ (z : Bool). T z ↔ LeftByRun s) (sym e) (left-exactly s))

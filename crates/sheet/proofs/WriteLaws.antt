@@ -1,94 +1,86 @@
 -- The laws of writing: what it comes to, by what the sheet holds and how much room there is.
 -- Assumes nothing.
-use mathlib.Core.Path.{_≡_, refl, sym, ap, _∙_}
-use mathlib.Core.List.{List, _++_}
-use Prim.Native.Nat.{ℕ, _+_, _≤_, _<_}
+use mathlib.Core.Path.{_≡_, sym, ap, _∙_}
+use mathlib.Core.List.{List, [], _∷_, _++_}
+use Prim.Native.Nat.{ℕ, _+_, _*_, _≤_, _<_}
 use native.Mathlib.Omega.{arith}
-use lib.Dec.{ltb}
-use lib.ListN.{length, drop, length-append}
-use lib.Seq.{sets, sets-eq}
+use lib.ListN.{length, drop}
+use lib.Seq.{sets}
 use borrow.Author.Tests.{lt-ltb, le-ltb}
 use Rattle.fields.specs.declared.refusal.Refusal.{Refusal}
-use Rattle.fields.specs.declared.refusal.Refusal.the-variants.{BufferTooShort}
-use Rattle.sheet.specs.Order.{Condition, _when_, firstOf}
-use Rattle.sheet.specs.Steps.{openedOf}
-use Rattle.sheet.specs.Sheet.{held}
-use Rattle.sheet.specs.Bytes.{fours, wholeLength, coursesFigures, headerOf, layout, bytesOf, writeOrder, WriteReply, writtenAs, bufferAfter, written}
-use Rattle.sheet.specs.declared.entries.Entries.{Entries}
-use Rattle.sheet.specs.declared.entries.Opened as Opened
-use Rattle.sheet.specs.declared.entries.Answer.{Answer}
-use Rattle.sheet.specs.declared.entries.Answer.the-variants.{Accepted, Refused}
-use Rattle.sheet.specs.declared.entries.Tank.{Tank}
-use Rattle.sheet.specs.declared.entries.Site.{Site}
-use Rattle.sheet.specs.declared.entries.Anchors.{Anchors}
-use Rattle.sheet.specs.declared.entries.Course.{Course}
-use Rattle.sheet.specs.declared.entries.Sheet.{Sheet}
-use Rattle.sheet.specs.declared.entries.Written as Written
-use Rattle.sheet.proofs.OpenLaws.{refused-first, complete-first, entries-are, whole-sheet}
-use Rattle.sheet.proofs.ByteLaws.{sets-append, fours-length, courses-figures-length}
-use Rattle.sheet.proofs.RebuildLaws.{held-length}
+use Rattle.fields.specs.declared.refusal.Refusal.the-variants.{Unreachable, BufferTooShort}
+use Rattle.entries.specs.Order.{firstOf}
+use Rattle.entries.specs.declared.sheet.Sheet.{Sheet}
+use Rattle.entries.specs.declared.answer.Answer.{Answer}
+use Rattle.entries.specs.declared.answer.Answer.the-variants.{Accepted, Refused}
+use Rattle.layout.specs.Numbers.{fours}
+use Rattle.layout.specs.Layout.{version1, wholeLength, prefixOf, tailHead, coursesFigures, layout}
+use Rattle.layout.proofs.LayoutLaws.{whole-of-one, layout-stored}
+use Rattle.sheet.specs.Complete.{entriesOf, coursesOf, statusOf, answerAs, Valid}
+use Rattle.sheet.specs.Writing.{bytesOf, sizeOf, noRoom, WriteReply, writeReply, written, writtenEntries}
+use Rattle.sheet.specs.declared.complete.Entries.{Entries}
+use Rattle.sheet.specs.declared.complete.Completeness as Status
+use Rattle.sheet.specs.declared.writing.Written as Written
+use Rattle.sheet.proofs.CompleteLaws.{complete-first, courses-length}
 
 abbrev pub denied : Refusal → List ℕ → WriteReply
 denied r buf = record { answer = Written.the-variants.Refused r; buffer = buf }
 
-abbrev pub done : ℕ → List ℕ → List ℕ → WriteReply
-done n bytes buf = record { answer = Written.the-variants.Bytes (wholeLength n); buffer = bytes ++ drop (wholeLength n) buf }
+-- ---- by the answer to what is asked first
 
 module _ (s : Sheet) (buf : List ℕ) where
-  answered : {a : Answer} → firstOf (writeOrder s (length buf)) ≡ a
-      → written s buf ≡ record { answer = writtenAs a (wholeLength (s .count)); buffer = bufferAfter a s buf }
+  by-status : written s buf ≡ writeReply (answerAs (statusOf s) Accepted (firstOf (noRoom (entriesOf s) (length buf) ∷ []))) (entriesOf s) buf
   unfolding written
-  answered e = ap (λ (a : Answer). record { answer = writtenAs a (wholeLength (s .count)); buffer = bufferAfter a s buf }) e
+  by-status =
+      ap (λ (a : Answer). writeReply a (entriesOf s) buf) (complete-first s [] (noRoom (entriesOf s) (length buf) ∷ []))
 
-  abbrev room : Condition
-  room = BufferTooShort when ltb (length buf) (wholeLength (s .count))
+  pub write-unreachable : statusOf s ≡ Status.the-variants.Unreachable → written s buf ≡ denied Unreachable buf
+  write-unreachable e = by-status ∙ rw e
 
-  pub write-refused : {r : Refusal} → openedOf s ≡ Opened.the-variants.Refused r → written s buf ≡ denied r buf
-  write-refused o = answered (refused-first s room o)
+  pub write-refused : {r : Refusal} → statusOf s ≡ Status.the-variants.Refused r → written s buf ≡ denied r buf
+  write-refused e = by-status ∙ rw e
 
-  module _ (e : Entries) (o : openedOf s ≡ Opened.the-variants.Complete e) where
-    pub write-no-room : length buf < wholeLength (s .count) → written s buf ≡ denied BufferTooShort buf
-    write-no-room l = answered {a = Refused BufferTooShort} (complete-first s e o room ∙ rw (lt-ltb _ _ l))
+  pub write-complete : statusOf s ≡ Status.the-variants.Complete → written s buf ≡ writtenEntries (entriesOf s) buf
+  unfolding writtenEntries
+  write-complete e = by-status ∙ rw e
 
-    pub write-done : wholeLength (s .count) ≤ length buf → written s buf ≡ done (s .count) (bytesOf s) buf
-    write-done l = answered {a = Accepted} (complete-first s e o room ∙ rw (le-ltb _ _ l))
+-- ---- of the entries of a complete sheet
 
--- ---- the stores that leave the bytes
+module _ (e : Entries) (buf : List ℕ) where
+  pub no-room : length buf < sizeOf e → writtenEntries e buf ≡ denied BufferTooShort buf
+  unfolding writtenEntries
+  no-room l = rw (lt-ltb _ _ l)
 
-pub header-length : (t : Tank) (x : Site) (a : Anchors) (n : ℕ) → length (headerOf t x a n) ≡ 60
-unfolding headerOf
-header-length t x a n = refl
+  pub done : sizeOf e ≤ length buf
+      → writtenEntries e buf ≡ record { answer = Written.the-variants.Bytes (sizeOf e); buffer = bytesOf e ++ drop (sizeOf e) buf }
+  unfolding writtenEntries
+  done l = rw (le-ltb _ _ l)
 
-pub layout-length : (t : Tank) (x : Site) (a : Anchors) (cs : List Course) → length (layout t x a cs) ≡ wholeLength (length cs)
-layout-length t x a cs =
-    omega (arith, length-append (headerOf t x a (length cs)) (fours (coursesFigures cs)), header-length t x a (length cs), fours-length (coursesFigures cs), courses-figures-length cs)
-
-pub all-stored : (l vs : List ℕ) → length vs ≤ length l → sets l 0 vs ≡ vs ++ drop (length vs) l
-all-stored l vs h = let z : 0 + length vs ≡ length vs = omega arith in sets-eq vs l 0 (omega arith) ∙ ap (λ (k : ℕ). vs ++ drop k l) z
-
--- the header, and then the courses
-pub layout-stored : (t : Tank) (x : Site) (a : Anchors) (cs : List Course) (l : List ℕ) → wholeLength (length cs) ≤ length l
-    → sets (sets l 0 (headerOf t x a (length cs))) 60 (fours (coursesFigures cs)) ≡ layout t x a cs ++ drop (wholeLength (length cs)) l
-layout-stored t x a cs l h =
-    let k : 60 ≡ 0 + length (headerOf t x a (length cs)) = omega (arith, header-length t x a (length cs)) in
-    ap (λ (i : ℕ). sets (sets l 0 (headerOf t x a (length cs))) i (fours (coursesFigures cs))) k
-    ∙ sym (sets-append (headerOf t x a (length cs)) (fours (coursesFigures cs)) l 0)
-    ∙ all-stored l (layout t x a cs) (omega (arith, layout-length t x a cs))
-    ∙ ap (λ (i : ℕ). layout t x a cs ++ drop i l) (layout-length t x a cs)
-
--- the bytes of a complete sheet, by its entries
-module _ (s : Sheet) (e : Entries) (o : openedOf s ≡ Opened.the-variants.Complete e) where
-  pub bytes-of-entries : bytesOf s ≡ layout (e .tank) (e .site) (s .anchors) (held s)
+  pub entries-stored : {p q r : List ℕ} → Valid e → sizeOf e ≤ length buf
+      → p ≡ sets buf 0 (prefixOf version1 (e .count) (e .tank)) → q ≡ sets p 27 (tailHead (e .site) (e .anchors) (e .count))
+      → r ≡ sets q 60 (fours (coursesFigures (coursesOf e))) → r ≡ bytesOf e ++ drop (sizeOf e) buf
   unfolding bytesOf
-  bytes-of-entries = ap (λ (d : Entries). layout (d .tank) (d .site) (s .anchors) (held s)) (entries-are s e o)
+  entries-stored {p} v l i j k =
+      let n = courses-length e v in
+      layout-stored (e .tank) (e .site) (e .anchors) (coursesOf e) buf (omega (arith, n))
+      (i ∙ ap (λ (m : ℕ). sets buf 0 (prefixOf version1 m (e .tank))) (sym n))
+      (j ∙ ap (λ (m : ℕ). sets p 27 (tailHead (e .site) (e .anchors) m)) (sym n))
+      k
+      ∙ ap (λ (m : ℕ). layout version1 (e .tank) (e .site) (e .anchors) (coursesOf e) ++ drop (wholeLength version1 m) buf) n
 
-  pub sheet-stored : (l : List ℕ) {p q : List ℕ} → wholeLength (s .count) ≤ length l
-      → p ≡ sets l 0 (headerOf (e .tank) (e .site) (s .anchors) (s .count)) → q ≡ sets p 60 (fours (coursesFigures (held s)))
-      → q ≡ bytesOf s ++ drop (wholeLength (s .count)) l
-  sheet-stored l h i j =
-      let n = held-length s (whole-sheet s e o .reach) in
-      j
-      ∙ ap (λ (z : List ℕ). sets z 60 (fours (coursesFigures (held s)))) (i ∙ ap (λ (k : ℕ). sets l 0 (headerOf (e .tank) (e .site) (s .anchors) k)) (sym n))
-      ∙ layout-stored (e .tank) (e .site) (s .anchors) (held s) l (omega (arith, n))
-      ∙ ap (λ (z : List ℕ). z ++ drop (wholeLength (length (held s))) l) (sym bytes-of-entries)
-      ∙ ap (λ (k : ℕ). bytesOf s ++ drop (wholeLength k) l) n
+  -- and so after the stores
+  pub stored-done : {p q r : List ℕ} → Valid e → 60 + 20 * e .count ≤ length buf
+      → p ≡ sets buf 0 (prefixOf version1 (e .count) (e .tank)) → q ≡ sets p 27 (tailHead (e .site) (e .anchors) (e .count))
+      → r ≡ sets q 60 (fours (coursesFigures (coursesOf e)))
+      → writtenEntries e buf ≡ record { answer = Written.the-variants.Bytes (60 + 20 * e .count); buffer = r }
+  stored-done {r = r} v l i j k =
+      let m : sizeOf e ≤ length buf = omega arith in
+      done m
+      ∙ ap (λ (b : List ℕ). record { answer = Written.the-variants.Bytes (sizeOf e); buffer = b }) (sym (entries-stored v m i j k))
+      ∙ ap (λ (n : ℕ). record { answer = Written.the-variants.Bytes n; buffer = r }) (whole-of-one (e .count))
+
+pub entries-clauses : {v w : WriteReply} → v ≡ w → (w .answer ≡ v .answer) × (w .buffer ≡ v .buffer)
+entries-clauses e = (ap (λ (z : WriteReply). z .answer) (sym e), ap (λ (z : WriteReply). z .buffer) (sym e))
+
+pub reply-is : {v : WriteReply} {w : Written.Written} {b : List ℕ} → w ≡ v .answer → b ≡ v .buffer → v ≡ record { answer = w; buffer = b }
+reply-is e f = rw (e, f)

@@ -1,4 +1,4 @@
-pub mod Order
-pub mod Sheet
 pub mod Steps
-pub mod Bytes
+pub mod Complete
+pub mod Writing
+pub mod Reading

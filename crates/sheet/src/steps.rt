@@ -3,70 +3,78 @@
 ghost use mathlib.Core.Path.{_≡_};
 ghost use mathlib.Core.List.{_∷_};
 ghost use Prim.Native.Nat.{_≤_};
-ghost use Rattle.sheet.specs.Order.{answerPaper, firstPaper};
-ghost use Rattle.sheet.specs.Sheet.{held, heightOf};
-ghost use Rattle.sheet.specs.Steps.{Step, orderOf, replied, refused, taken, unreachable, stated};
-use crate::entries::Anchors;
-use crate::entries::Answer;
-use crate::entries::Course;
-use crate::entries::Reply;
-use crate::entries::Sheet;
-use crate::entries::Site;
-use crate::entries::SiteEntry;
-use crate::entries::Tank;
-use crate::entries::TankEntry;
-use crate::flaws;
+ghost use Rattle.entries.specs.Order.{answerCode, firstCode};
+ghost use Rattle.entries.specs.Sheet.{held, heightOf};
+ghost use Rattle.sheet.specs.Steps.{Step, orderOf, replied, refused, applied, unreachable, stated};
 use crate::reach;
+use entries::Anchors;
+use entries::Answer;
+use entries::Course;
+use entries::MOST_COURSES;
+use entries::MOST_HEIGHT;
+use entries::Sheet;
+use entries::Site;
+use entries::SiteEntry;
+use entries::Tank;
+use entries::TankEntry;
+use entries::flaws;
 use fields::Refusal;
+use parts::slots;
+
+// The answer to a step, or to reading, and the sheet after it.
+pub struct Reply {
+    pub answer: Answer,
+    pub sheet: Sheet,
+}
 
 // Fields 1 to 6, once. Refused: 30, 31, 16, 17.
 pub fn state_tank(s: Sheet, t: Tank) -> Reply
     ensures { λ r. ⌜ r ≡ stated s (Step.stateTank t) ⌝ }
-    ensures { λ r. ⌜ answerPaper (r .answer) ≡ firstPaper (unreachable s ∷ orderOf s (Step.stateTank t)) ⌝ }
+    ensures { λ r. ⌜ answerCode (r .answer) ≡ firstCode (unreachable s ∷ orderOf s (Step.stateTank t)) ⌝ }
 {
     if !reach::is_reachable(s) {
         return refuse(s, Refusal::Unreachable);
     }
-    take_tank(s, t)
+    apply_tank(s, t)
 }
 
 // Fields 7 to 11; the later ones count. Refused: 30, 32, 16.
 pub fn state_site(s: Sheet, x: Site) -> Reply
     ensures { λ r. ⌜ r ≡ stated s (Step.stateSite x) ⌝ }
-    ensures { λ r. ⌜ answerPaper (r .answer) ≡ firstPaper (unreachable s ∷ orderOf s (Step.stateSite x)) ⌝ }
+    ensures { λ r. ⌜ answerCode (r .answer) ≡ firstCode (unreachable s ∷ orderOf s (Step.stateSite x)) ⌝ }
 {
     if !reach::is_reachable(s) {
         return refuse(s, Refusal::Unreachable);
     }
-    take_site(s, x)
+    apply_site(s, x)
 }
 
 // Fields 12 to 14; the later ones count. Refused: 30, 32, 16, 18.
 pub fn state_anchors(s: Sheet, a: Anchors) -> Reply
     ensures { λ r. ⌜ r ≡ stated s (Step.stateAnchors a) ⌝ }
-    ensures { λ r. ⌜ answerPaper (r .answer) ≡ firstPaper (unreachable s ∷ orderOf s (Step.stateAnchors a)) ⌝ }
+    ensures { λ r. ⌜ answerCode (r .answer) ≡ firstCode (unreachable s ∷ orderOf s (Step.stateAnchors a)) ⌝ }
 {
     if !reach::is_reachable(s) {
         return refuse(s, Refusal::Unreachable);
     }
-    take_anchors(s, a)
+    apply_anchors(s, a)
 }
 
 // Fields 15 to 19, of the next course up. Refused: 30, 32, 33, 16, 17, 34.
 pub fn add_course(s: Sheet, c: Course) -> Reply
     ensures { λ r. ⌜ r ≡ stated s (Step.addCourse c) ⌝ }
-    ensures { λ r. ⌜ answerPaper (r .answer) ≡ firstPaper (unreachable s ∷ orderOf s (Step.addCourse c)) ⌝ }
+    ensures { λ r. ⌜ answerCode (r .answer) ≡ firstCode (unreachable s ∷ orderOf s (Step.addCourse c)) ⌝ }
 {
     if !reach::is_reachable(s) {
         return refuse(s, Refusal::Unreachable);
     }
     let courses = s.courses;
-    let height = reach::height(courses, s.count);
-    take_course(s, height, c)
+    let height = slots::height(courses, s.count);
+    apply_course(s, height, c)
 }
 
 // The sheet after a step with this answer.
-fn reply(answer: Answer, before: Sheet, after: Sheet) -> Reply
+fn replied(answer: Answer, before: Sheet, after: Sheet) -> Reply
     ensures { λ r. ⌜ r ≡ replied answer before after ⌝ }
 {
     let Answer::Accepted = answer else {
@@ -91,8 +99,8 @@ fn refuse(s: Sheet, refusal: Refusal) -> Reply
 }
 
 // The steps without their test for 30: what reading goes through.
-pub(crate) fn take_tank(s: Sheet, t: Tank) -> Reply
-    ensures { λ r. ⌜ r ≡ taken s (Step.stateTank t) ⌝ }
+pub(crate) fn apply_tank(s: Sheet, t: Tank) -> Reply
+    ensures { λ r. ⌜ r ≡ applied s (Step.stateTank t) ⌝ }
 {
     let entry = s.tank;
     let TankEntry::Blank = entry else {
@@ -110,11 +118,11 @@ pub(crate) fn take_tank(s: Sheet, t: Tank) -> Reply
         courses,
         count: s.count,
     };
-    reply(flaw, s, after)
+    replied(flaw, s, after)
 }
 
-pub(crate) fn take_site(s: Sheet, x: Site) -> Reply
-    ensures { λ r. ⌜ r ≡ taken s (Step.stateSite x) ⌝ }
+pub(crate) fn apply_site(s: Sheet, x: Site) -> Reply
+    ensures { λ r. ⌜ r ≡ applied s (Step.stateSite x) ⌝ }
 {
     let tank = s.tank;
     let TankEntry::Filled(_) = tank else {
@@ -131,11 +139,11 @@ pub(crate) fn take_site(s: Sheet, x: Site) -> Reply
         courses,
         count: s.count,
     };
-    reply(flaw, s, after)
+    replied(flaw, s, after)
 }
 
-pub(crate) fn take_anchors(s: Sheet, a: Anchors) -> Reply
-    ensures { λ r. ⌜ r ≡ taken s (Step.stateAnchors a) ⌝ }
+pub(crate) fn apply_anchors(s: Sheet, a: Anchors) -> Reply
+    ensures { λ r. ⌜ r ≡ applied s (Step.stateAnchors a) ⌝ }
 {
     let entry = s.tank;
     let TankEntry::Filled(t) = entry else {
@@ -152,24 +160,24 @@ pub(crate) fn take_anchors(s: Sheet, a: Anchors) -> Reply
         courses,
         count: s.count,
     };
-    reply(flaw, s, after)
+    replied(flaw, s, after)
 }
 
 // The caller hands in the height of the courses held, so that reading need not add it up again at
 // every course.
-pub(crate) fn take_course(s: Sheet, height: u64, c: Course) -> Reply
+pub(crate) fn apply_course(s: Sheet, height: u64, c: Course) -> Reply
     requires { ⌜ (height ≡ heightOf (held s)) × (height ≤ 76800) ⌝ }
-    ensures { λ r. ⌜ r ≡ taken s (Step.addCourse c) ⌝ }
+    ensures { λ r. ⌜ r ≡ applied s (Step.addCourse c) ⌝ }
 {
     let tank = s.tank;
     let TankEntry::Filled(_) = tank else {
         return refuse(s, Refusal::NoTank);
     };
     let n = s.count;
-    if reach::MOST_COURSES <= n {
+    if MOST_COURSES <= n {
         return refuse(s, Refusal::CoursesFull);
     }
-    let too_high = reach::MOST_HEIGHT < height + c.width as u64;
+    let too_high = MOST_HEIGHT < height + c.width as u64;
     let flaw = flaws::or_else(flaws::course_flaw(c), Refusal::ShellTooHigh, too_high);
     let site = s.site;
     let anchors = s.anchors;
@@ -182,5 +190,5 @@ pub(crate) fn take_course(s: Sheet, height: u64, c: Course) -> Reply
         courses,
         count: n + 1,
     };
-    reply(flaw, s, after)
+    replied(flaw, s, after)
 }

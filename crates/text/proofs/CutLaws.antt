@@ -10,35 +10,38 @@ use lib.ListN.{length, take}
 use lib.Seq.{getD-take, length-take-le}
 use Rattle.fields.specs.declared.refusal.Refusal.{Refusal}
 use Rattle.fields.specs.declared.refusal.Refusal.the-variants.{TooManyBytes, BadLength}
-use Rattle.sheet.specs.Order.{firstOf}
+use Rattle.entries.specs.Order.{firstOf}
+use Rattle.entries.specs.Sheet.{emptySheet}
+use Rattle.entries.specs.declared.answer.Answer.{Answer}
+use Rattle.entries.specs.declared.answer.Answer.the-variants.{Refused}
+use Rattle.layout.specs.Numbers.{twoIn}
+use Rattle.layout.specs.Layout.{version1}
+use Rattle.layout.specs.Header.{isLength, readOrder}
+use Rattle.layout.proofs.HeaderLaws.{length-exactly, no-length, too-many}
 use Rattle.sheet.specs.Steps.{unless, inTurn}
-use Rattle.sheet.specs.Sheet.{emptySheet}
-use Rattle.sheet.specs.Bytes.{twoIn, isLength, readOrder, stepsIn, readIn}
-use Rattle.sheet.specs.declared.entries.Answer.{Answer}
-use Rattle.sheet.specs.declared.entries.Answer.the-variants.{Refused}
-use Rattle.sheet.proofs.HeaderLaws.{length-exactly, no-length, too-many}
-use Rattle.judge.specs.Judging.{refusedFor}
-use Rattle.judge.specs.Marking.{marked}
-use Rattle.judge.proofs.ClaimLaws.{mark-refused}
-use Rattle.text.specs.Text.{textOf}
+use Rattle.sheet.specs.Reading.{stepsIn, readIn}
+use Rattle.reports.specs.Judging.{unlessRefused, refusedFor, judged}
+use Rattle.lines.specs.Text.{textOf}
+use Rattle.marking.specs.Marking.{marked}
 use Rattle.text.specs.Marking.{markedText, mostBytes}
 
 -- 13, or else 12
 abbrev tooLong : ℕ → Refusal
-tooLong L = cond (isLength L) TooManyBytes BadLength
+tooLong L = cond (isLength version1 L) TooManyBytes BadLength
 
-answered : (b : List ℕ) → mostBytes ≤ length b → firstOf (readOrder b) ≡ Refused (tooLong (twoIn b))
-answered b h = go (isLength (twoIn b)) refl
+answered : (b : List ℕ) → mostBytes ≤ length b → firstOf (readOrder version1 b) ≡ Refused (tooLong (twoIn b))
+answered b h = go (isLength version1 (twoIn b)) refl
   where
-    go : (x : Bool) → isLength (twoIn b) ≡ x → firstOf (readOrder b) ≡ Refused (cond (isLength (twoIn b)) TooManyBytes BadLength)
+    go : (x : Bool) → isLength version1 (twoIn b) ≡ x → firstOf (readOrder version1 b) ≡ Refused (cond (isLength version1 (twoIn b)) TooManyBytes BadLength)
     go true e =
         let l = length-exactly (twoIn b) .0 (subst T (sym e) tt) in
         sym (too-many b (twoIn b) refl (omega arith) e (omega (arith, l .few, l .is)) (omega (arith, l .few, l .is))) ∙ rw e
     go false e = sym (no-length b (twoIn b) refl (omega arith) e) ∙ rw e
 
 too-long : (b : List ℕ) → mostBytes ≤ length b → marked b ≡ refusedFor (tooLong (twoIn b))
-unfolding readIn
-too-long b h = mark-refused b refl (ap (λ (a : Answer). unless a (inTurn emptySheet (stepsIn b)) .answer) (answered b h))
+unfolding readIn marked
+too-long b h =
+    ap (λ (a : Answer). unlessRefused (unless a (inTurn emptySheet (stepsIn version1 b)) .answer) (judged (readIn b .sheet))) (answered b h)
 
 pub cut-same : (b : List ℕ) → mostBytes ≤ length b → markedText (take mostBytes b) ≡ markedText b
 unfolding markedText

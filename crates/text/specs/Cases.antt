@@ -3,10 +3,13 @@ use mathlib.Core.List.{List, [], _∷_, _++_}
 use Prim.Native.Nat.{ℕ}
 use Rattle.fields.specs.declared.refusal.Refusal.{Refusal}
 use Rattle.fields.specs.declared.refusal.Refusal.the-variants.{TooFewBytes, TooManyBytes, BadLength, BadVersion, BadCount, OutOfRange, AllowanceNotBelowPlate, BadAnchors, BufferTooShort, Unreachable, TankStated, NoTank, CoursesFull, ShellTooHigh, NoCourse, NoSite, WaterAboveShell}
-use Rattle.rules.specs.Words.{ascii}
-use Rattle.sheet.specs.Bytes.{bytesOf}
-use Rattle.sheet.specs.Sheet.{noAnchors}
-use Rattle.judge.specs.Cases.{exampleWith, example}
+use Rattle.lists.specs.Ascii.{ascii}
+use Rattle.entries.specs.Sheet.{noAnchors}
+use Rattle.entries.specs.declared.sheet.Sheet.{Sheet}
+use Rattle.sheet.specs.Complete.{entriesOf}
+use Rattle.sheet.specs.Writing.{bytesOf}
+use Rattle.layout.specs.Cases.{exampleBytes}
+use Rattle.reports.specs.Cases.{exampleWith}
 
 pub record PrintedCase : Type 0 where
   pub bytes : List ℕ
@@ -15,14 +18,18 @@ pub record PrintedCase : Type 0 where
 abbrev pub prints : List ℕ → List ℕ → PrintedCase
 prints bytes text = record { bytes = bytes; text = text }
 
+-- the bytes of a complete sheet
+abbrev pub sheetBytes : Sheet → List ℕ
+sheetBytes s = bytesOf (entriesOf s)
+
 abbrev pub upToWind : List ℕ
 upToWind = ascii "course 1 59 188 250 ok\ncourse 2 40 188 250 ok\ncourse 3 20 188 250 ok\nwind 2123 73371\n"
 
 abbrev pub printedCases : List PrintedCase
 printedCases =
-    prints (bytesOf example) (upToWind ++ ascii "pull 2133 -211\nanchors spacing ok strength ok\ntank sound\n")
-    ∷ prints (bytesOf (exampleWith 105 30000 noAnchors)) (upToWind ++ ascii "self wind short resist 94646 none\ntank short\n")
-    ∷ prints (bytesOf (exampleWith 59 30000 noAnchors)) (ascii "refused 16 7\n")
+    prints exampleBytes (upToWind ++ ascii "pull 2133 -211\nanchors spacing ok strength ok\ntank sound\n")
+    ∷ prints (sheetBytes (exampleWith 105 30000 noAnchors)) (upToWind ++ ascii "self wind short resist 94646 none\ntank short\n")
+    ∷ prints (sheetBytes (exampleWith 59 30000 noAnchors)) (ascii "refused 16 7\n")
     ∷ prints [] (ascii "refused 11\n")
     ∷ []
 

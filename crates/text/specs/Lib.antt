@@ -1,5 +1,3 @@
-pub mod Decimal
-pub mod Text
-pub mod Marking
 pub mod Printing
+pub mod Marking
 pub mod Cases

@@ -2,10 +2,10 @@
 use mathlib.Core.Bool.{cond}
 use mathlib.Core.List.{List, _++_}
 use mathlib.Core.Path.{_≡_}
-use Prim.Native.Nat.{ℕ, _+_, _≤_}
+use Prim.Native.Nat.{ℕ, _≤_}
 use lib.Dec.{leb}
 use lib.ListN.{length, drop}
-use lib.Seq.{sets}
+use Rattle.lines.specs.Text.{mostText}
 use Rattle.text.specs.declared.printing.Printed.{Printed}
 use Rattle.text.specs.declared.printing.Printed.the-variants.{Written, TooSmall}
 
@@ -22,29 +22,19 @@ printed t buf =
     (record { answer = TooSmall (length t); buffer = buf })
 
 -- What each case of the reply says: how many bytes were written, and how many the text has.
-pub record PrintPaper : Type 0 where
+pub record PrintSizes : Type 0 where
   pub bytes : ℕ
   pub long : ℕ
 
-abbrev pub printPaper : Printed → PrintPaper
-printPaper (Written n) = record { bytes = n; long = n }
-printPaper (TooSmall n) = record { bytes = 0; long = n }
+abbrev pub sizesOf : Printed → PrintSizes
+sizesOf (Written n) = record { bytes = n; long = n }
+sizesOf (TooSmall n) = record { bytes = 0; long = n }
 
-unfoldable pub printedPaper : List ℕ → ℕ → PrintPaper
-printedPaper t room = record { bytes = cond (leb (length t) room) (length t) 0; long = length t }
-
--- No text is longer: with twenty digits in every number, and a sign in a pull, twelve courses of 97 bytes, wind 47, pull 49,
--- anchors 37, tank 11.
-abbrev pub mostText : ℕ
-mostText = 1308
+unfoldable pub printedSizes : List ℕ → ℕ → PrintSizes
+printedSizes t room = record { bytes = cond (leb (length t) room) (length t) 0; long = length t }
 
 -- All that is promised of a reply, and of the buffer after it.
 abbrev pub Prints : List ℕ → List ℕ → Printed → List ℕ → Type 0
 Prints t buf r buf′ =
     (r ≡ printed t buf .answer)
-    × ((buf′ ≡ printed t buf .buffer) × ((printPaper r ≡ printedPaper t (length buf)) × (length t ≤ mostText)))
-
--- Storing a part of a text at a place; `next` is the place after it.
-pub record Put (buf : List ℕ) (at : ℕ) (part : List ℕ) (buf′ : List ℕ) (next : ℕ) : Type 0 where
-  pub stored : buf′ ≡ sets buf at part
-  pub after : next ≡ at + length part
+    × ((buf′ ≡ printed t buf .buffer) × ((sizesOf r ≡ printedSizes t (length buf)) × (length t ≤ mostText)))

@@ -1,6 +1,4 @@
-// A report or a refusal as document 01's lines, in a buffer that the caller lends; and the whole marker,
-// from the bytes of a sheet to its text.
-mod lines;
-pub mod marking;
+// A judgement as text, in a buffer that the caller lends, however small; and the whole marker, from the bytes
+// of a sheet to its text.
+pub mod marker;
 pub mod printing;
-mod words;

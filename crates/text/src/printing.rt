@@ -2,11 +2,9 @@
 ghost use mathlib.Core.Path.{_≡_};
 ghost use Prim.Native.Nat.{_≤_};
 ghost use lib.ListN.{length, take};
-ghost use Rattle.text.specs.Text.{textOf};
-ghost use Rattle.text.specs.Printing.{Prints, printed, printPaper, printedPaper, mostText};
-use crate::lines;
-use crate::words;
-use judge::report::Judgement;
+ghost use Rattle.lines.specs.Text.{textOf, mostText};
+ghost use Rattle.text.specs.Printing.{Prints, printed, sizesOf, printedSizes};
+use reports::report::Judgement;
 
 // A buffer of this length has room for any text.
 pub const MOST_TEXT: usize = 1308;
@@ -20,7 +18,7 @@ pub enum Printed {
 impl Printed {
     // The text in the buffer that it was written to.
     pub fn text<'a>(self, out: &'a [u8]) -> &'a [u8]
-        ensures { λ r. ⌜ now r ≡ take (printPaper self .bytes) (now (out .entry)) ⌝ }
+        ensures { λ r. ⌜ now r ≡ take (sizesOf self .bytes) (now (out .entry)) ⌝ }
     {
         match self {
             Printed::Written(length) => {
@@ -38,7 +36,7 @@ impl Printed {
 pub fn print(j: Judgement, out: &mut [u8]) -> Printed
     ensures { λ r. ⌜ r ≡ printed (textOf j) (now (out .entry)) .answer ⌝ }
     ensures { λ r. ⌜ now (out .exit) ≡ printed (textOf j) (now (out .entry)) .buffer ⌝ }
-    ensures { λ r. ⌜ printPaper r ≡ printedPaper (textOf j) (length (now (out .entry))) ⌝ }
+    ensures { λ r. ⌜ sizesOf r ≡ printedSizes (textOf j) (length (now (out .entry))) ⌝ }
     ensures { λ r. ⌜ length (textOf j) ≤ mostText ⌝ }
 {
     if out.len() < MOST_TEXT {

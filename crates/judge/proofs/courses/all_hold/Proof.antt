@@ -5,8 +5,8 @@ use native.Mathlib.Omega.{arith}
 use lib.ListN.{take, drop}
 use borrow.Author.Tests.{not-true, not-false}
 use Rattle.rules.specs.Verdict.{holds}
-use Rattle.sheet.proofs.EachLaws.{each-of-here, each-of-next, each-of-end}
-use Rattle.judge.specs.Report.{blankLine, coursesHold}
+use Rattle.lists.proofs.EachLaws.{each-of-here, each-of-next, each-of-end}
+use Rattle.reports.specs.Report.{blankLine, coursesHold}
 use Rattle.judge.proofs.courses.all_hold.Statement.{statement}
 use Rattle.judge.proofs.courses.all_hold.Tie as tie
 

@@ -1,9 +1,9 @@
 -- `judge::courses::line` meets its contract. Assumes nothing.
 use borrow.Author.Needs.{needs}
 use Rattle.rules.proofs.Bounds.{head-most}
-use Rattle.sheet.proofs.FieldLaws.{tank-in, course-in}
-use Rattle.judge.specs.Report.{lineOf}
-use Rattle.judge.proofs.FigureLaws.{need-in, required-in}
+use Rattle.entries.proofs.FieldLaws.{tank-in, course-in}
+use Rattle.reports.specs.Report.{lineOf}
+use Rattle.reports.proofs.FigureLaws.{need-in, required-in}
 use Rattle.judge.proofs.courses.line.Statement.{statement}
 use Rattle.judge.proofs.courses.line.Tie as tie
 
@@ -26,7 +26,7 @@ check-requires c κs = let s = c .before .before .before in
 
 returns : tie.Need-returns
 unfolding lineOf
-returns c = rw (c .check .ensures, c .before .required .ensures, c .before .before .need .ensures, c .before .before .before .head .ensures)
+returns c = rw (c .check .ensures .0, c .before .required .ensures, c .before .before .need .ensures, c .before .before .before .head .ensures)
 
 pub line-spec : {M : Type 1} → statement M
 line-spec =

@@ -5,21 +5,23 @@ use Prim.Native.Nat.{ℕ, _+_, _-_, _≤_}
 use native.Mathlib.Omega.{arith}
 use lib.Seq.{length-take-le, getD-take}
 use lib.ListN.{length, getD, take, set}
-use Rattle.sheet.specs.Order.{clear}
-use Rattle.sheet.specs.Steps.{coursesClear}
-use Rattle.sheet.specs.Sheet.{heightOf, blankCourse, courseFlaws}
-use Rattle.sheet.proofs.CourseLaws.{height-next, top-within}
-use Rattle.sheet.proofs.EachLaws.{each-at}
-use Rattle.judge.specs.Report.{lineOf, linesOf, padded}
-use Rattle.judge.specs.declared.report.CourseLine.{CourseLine}
-use Rattle.judge.proofs.LineLaws.{lines-length, lines-next, padded-next}
+use Rattle.lists.specs.Pad.{padded}
+use Rattle.lists.proofs.PadLaws.{padded-next}
+use Rattle.entries.specs.Order.{clear}
+use Rattle.parts.specs.Parts.{coursesClear}
+use Rattle.entries.specs.Sheet.{heightOf, blankCourse, courseFlaws}
+use Rattle.entries.proofs.CourseLaws.{height-next, top-within}
+use Rattle.lists.proofs.EachLaws.{each-at}
+use Rattle.reports.specs.Report.{lineOf, linesOf, blankLine}
+use Rattle.reports.specs.declared.report.CourseLine.{CourseLine}
+use Rattle.reports.proofs.LineLaws.{lines-length, lines-next}
 use Rattle.judge.proofs.courses.lines.Statement.{statement}
 use Rattle.judge.proofs.courses.lines.Tie as tie
 
 abbrev Inv-loop : tie.InvT-loop
 Inv-loop tank n courses all₀ edge₀ i₀ all edge i = (i ≤ n)
     × (edge ≡ heightOf (take i courses))
-    × (all ≡ padded (linesOf tank 0 (take i courses)))
+    × (all ≡ padded blankLine (linesOf tank 0 (take i courses)))
 
 abbrev μ-loop : tie.MeasureT-loop
 μ-loop tank n courses all₀ edge₀ i₀ all edge i = n - i
@@ -74,14 +76,14 @@ loop-again c = let l = c .before .before .before .before in
       omega arith,
       omega (arith, e .1, height-next cs i (omega arith)),
       ap (λ (ls : List CourseLine). set ls i (c .before .line .result)) (e .2)
-          ∙ padded-next (linesOf t 0 (take i cs)) (c .before .line .result) i n (omega arith)
-          ∙ ap (λ (x : CourseLine). padded (linesOf t 0 (take i cs) ++ x ∷ [])) (c .before .line .ensures ∙ ap (λ (y : ℕ). lineOf t y (getD cs i blankCourse)) (e .1))
-          ∙ ap padded (sym (lines-next t cs i (omega arith))),
+          ∙ padded-next blankLine (linesOf t 0 (take i cs)) (c .before .line .result) i n (omega arith)
+          ∙ ap (λ (x : CourseLine). padded blankLine (linesOf t 0 (take i cs) ++ x ∷ [])) (c .before .line .ensures ∙ ap (λ (y : ℕ). lineOf t y (getD cs i blankCourse)) (e .1))
+          ∙ ap (padded blankLine) (sym (lines-next t cs i (omega arith))),
     )
 
 returns : tie.Need-returns Inv-loop μ-loop
 returns c = let e : c .before .loop .i ≡ c .before .before .before .args .n = omega arith in
-    c .before .loop .inv .2 ∙ ap (λ k. padded (linesOf (c .before .before .before .args .tank) 0 (take k (c .before .before .before .args .t2)))) e
+    c .before .loop .inv .2 ∙ ap (λ k. padded blankLine (linesOf (c .before .before .before .args .tank) 0 (take k (c .before .before .before .args .t2)))) e
 
 pub lines-spec : {M : Type 1} → statement M
 lines-spec =

@@ -2,7 +2,7 @@
 use mathlib.Core.Path.{_∙_, sym}
 use borrow.Author.Tests.{not-true, not-false}
 use borrow.Author.Needs.{needs}
-use Rattle.judge.specs.Report.{wordOf}
+use Rattle.reports.specs.Report.{wordOf}
 use Rattle.judge.proofs.judging.word.Statement.{statement}
 use Rattle.judge.proofs.judging.word.Tie as tie
 

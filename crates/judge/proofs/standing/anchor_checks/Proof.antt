@@ -3,10 +3,10 @@ use mir.Syntax.{w64}
 use mir.Val.{SFits}
 use mir.Facts.{toZ-ofZ}
 use borrow.Author.Needs.{needs}
-use Rattle.rules.proofs.Bounds.{larger-most}
-use Rattle.sheet.proofs.FieldLaws.{tank-in, site-in}
-use Rattle.judge.specs.Report.{anchorChecks}
-use Rattle.judge.proofs.FigureLaws.{anchors, circle-above, pull-in, area-above, area-in}
+use Rattle.stability.proofs.Bounds.{larger-most}
+use Rattle.entries.proofs.FieldLaws.{tank-in, site-in}
+use Rattle.reports.specs.Report.{anchorChecks}
+use Rattle.reports.proofs.FigureLaws.{anchors, circle-above, pull-in, area-above}
 use Rattle.judge.proofs.standing.anchor_checks.Statement.{statement}
 use Rattle.judge.proofs.standing.anchor_checks.Tie as tie
 
@@ -25,7 +25,7 @@ pull-requires-2 c κs = let s = c .before .before in
 spacing-requires : tie.Need-spacing-requires
 spacing-requires c κs = let s = c .before .before .before in
     let a = anchors (s .args .tank) (s .pre .0) (s .args .a) (s .pre .1 .1 .0) (s .pre .1 .1 .1 .0) in
-    (a .circle, a .number)
+    a .number
 
 larger-requires : tie.Need-larger-requires
 larger-requires c κs = search needs
@@ -44,7 +44,7 @@ strength-requires c κs = let b = c .before .before .before in
       rw (c .before .larger .ensures, toZ-ofZ wf, toZ-ofZ qf, w .pull .ensures, b .pull2 .ensures)
           (larger-most _ _ (k (s .args .moment) (s .pre .1 .1 .1 .1)) (k (s .args .site .moment) (site-in (s .args .site) (s .pre .1 .0) .moment .1))),
       rw (c .stress-area .ensures)
-          (area-above t (s .pre .0) (s .args .a) (s .pre .1 .1 .0) (s .pre .1 .1 .1 .0), area-in t (s .pre .0) (s .args .a) (s .pre .1 .1 .0) (s .pre .1 .1 .1 .0)),
+          (area-above t (s .pre .0) (s .args .a) (s .pre .1 .1 .0) (s .pre .1 .1 .1 .0)),
     )
 
 returns : tie.Need-returns
@@ -53,7 +53,7 @@ returns c = let b = c .before .before .before in
     let w = b .before .before .before in
     let wf : SFits w64 (w .pull .result) = record { sfits = w .pull .ok } in
     let qf : SFits w64 (b .before .pull2 .result) = record { sfits = b .before .pull2 .ok } in
-    rw (c .strength .ensures, c .before .stress-area .ensures, c .before .before .larger .ensures, toZ-ofZ wf, toZ-ofZ qf, b .spacing .ensures, b .before .pull2 .ensures, w .pull .ensures)
+    rw (c .strength .ensures .0, c .before .stress-area .ensures, c .before .before .larger .ensures, toZ-ofZ wf, toZ-ofZ qf, b .spacing .ensures .0, b .before .pull2 .ensures, w .pull .ensures)
 
 pub anchor-checks-spec : {M : Type 1} → statement M
 anchor-checks-spec =

@@ -1,8 +1,8 @@
 -- `judge::standing::resistance` meets its contract. Assumes nothing.
 use native.Mathlib.Omega.{arith}
-use Rattle.sheet.proofs.FieldLaws.{tank-in, site-in}
-use Rattle.judge.specs.Figures.{resistanceOn}
-use Rattle.judge.proofs.FigureLaws.{net-most, shell-in, bottom-in}
+use Rattle.entries.proofs.FieldLaws.{tank-in, site-in}
+use Rattle.reports.specs.Figures.{resistanceOn}
+use Rattle.reports.proofs.FigureLaws.{net-most, shell-in, bottom-in}
 use Rattle.judge.proofs.standing.resistance.Statement.{statement}
 use Rattle.judge.proofs.standing.resistance.Tie as tie
 
@@ -17,7 +17,7 @@ sub-net c = let s = c .before .before in
 bottom-weight-requires : tie.Need-bottom-weight-requires
 bottom-weight-requires c κs = let s = c .before .before in
     let t = tank-in (s .args .tank) (s .pre .0) in
-    (net-most (s .args .tank) (s .pre .0), (t .fy .1, (t .level, t .diameter)))
+    (net-most (s .args .tank) (s .pre .0), (t .fy .1, t .level))
 
 resistance-requires : tie.Need-resistance-requires
 resistance-requires c κs = let s = c .before .before .before in (

@@ -1,8 +1,8 @@
 -- `judge::standing::self_checks` meets its contract. Assumes nothing.
 use borrow.Author.Needs.{needs}
-use Rattle.sheet.proofs.FieldLaws.{tank-in, site-in}
-use Rattle.judge.specs.Report.{selfChecks}
-use Rattle.judge.proofs.FigureLaws.{resistance-in, resistance-some}
+use Rattle.entries.proofs.FieldLaws.{tank-in}
+use Rattle.reports.specs.Report.{selfChecks}
+use Rattle.reports.proofs.FigureLaws.{resistance-in, resistance-some}
 use Rattle.judge.proofs.standing.self_checks.Statement.{statement}
 use Rattle.judge.proofs.standing.self_checks.Tie as tie
 
@@ -15,21 +15,18 @@ resistance-requires c κs = search needs
 
 uplift-of-requires : tie.Need-uplift-of-requires
 uplift-of-requires c κs = let s = c .before .before in
-    (site-in (s .args .site) (s .pre .1 .0) .moment, rw (c .resistance .ensures) (resistance-in (s .args .tank) (s .pre .0) (s .args .site) (s .pre .1 .0)))
+    rw (c .resistance .ensures) (resistance-in (s .args .tank) (s .pre .0) (s .args .site) (s .pre .1 .0))
 
 check-requires : tie.Need-check-requires
 check-requires c κs = let s = c .before .before .before in
     rw (c .before .resistance .ensures) (
-      site-in (s .args .site) (s .pre .1 .0) .moment,
-      (
-        resistance-some (s .args .tank) (s .pre .0) (s .args .site) (s .pre .1 .0),
-        resistance-in (s .args .tank) (s .pre .0) (s .args .site) (s .pre .1 .0),
-      ),
+      resistance-some (s .args .tank) (s .pre .0) (s .args .site) (s .pre .1 .0),
+      resistance-in (s .args .tank) (s .pre .0) (s .args .site) (s .pre .1 .0),
     )
 
 returns : tie.Need-returns
 unfolding selfChecks
-returns c = rw (c .check .ensures, c .before .uplift-of .ensures .0, c .before .before .resistance .ensures, c .before .before .before .self-wind .ensures)
+returns c = rw (c .check .ensures .0, c .before .uplift-of .ensures .0, c .before .before .resistance .ensures, c .before .before .before .self-wind .ensures .0)
 
 pub self-checks-spec : {M : Type 1} → statement M
 self-checks-spec =

@@ -2,7 +2,7 @@
 use native.Mathlib.Omega.{arith}
 use borrow.Author.Tests.{eq-eqb, ne-eqb}
 use borrow.Author.Needs.{needs}
-use Rattle.judge.specs.Report.{standingOf}
+use Rattle.reports.specs.Report.{standingOf}
 use Rattle.judge.proofs.standing.standing.Statement.{statement}
 use Rattle.judge.proofs.standing.standing.Tie as tie
 

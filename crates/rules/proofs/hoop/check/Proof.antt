@@ -4,12 +4,12 @@ use Rattle.rules.proofs.Bounds.{course-sides}
 use Rattle.rules.proofs.hoop.check.Statement.{statement}
 use Rattle.rules.proofs.hoop.check.Tie as tie
 
-judged-requires : tie.Need-judged-requires
-judged-requires c κs = course-sides _ _ (c .pre .0) (c .pre .1)
+verdict-of-requires : tie.Need-verdict-of-requires
+verdict-of-requires c κs = course-sides _ _ (c .pre .0) (c .pre .1)
 
 returns : tie.Need-returns
 unfolding courseVerdict
-returns c = c .judged .ensures .0
+returns c = c .verdict-of .ensures
 
 pub check-spec : {M : Type 1} → statement M
-check-spec = tie.close (tie.spec judged-requires returns)
+check-spec = tie.close (tie.spec verdict-of-requires returns)

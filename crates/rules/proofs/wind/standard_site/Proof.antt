@@ -11,10 +11,10 @@ use Rattle.exact.specs.Quotient.{upOf}
 use Rattle.exact.proofs.Table.{holds-rule}
 use Rattle.fields.specs.Range.{range, within, In}
 use Rattle.fields.proofs.RangeLaws.{in-of-within}
-use Rattle.rules.specs.Wind.{pressureOf, standardSite, standardAnswer, answerOf}
+use Rattle.rules.specs.Wind.{pressureOf, standardSite, standardCode, siteCodeOf}
 use Rattle.rules.specs.declared.wind.SitePressure.{SitePressure}
 use Rattle.rules.specs.declared.wind.SitePressure.the-variants.{Given}
-use Rattle.rules.proofs.WindLaws.{standard-says}
+use Rattle.rules.proofs.WindLaws.{standard-code}
 use Rattle.rules.proofs.wind.standard_site.Statement.{statement}
 use Rattle.rules.proofs.wind.standard_site.Tie as tie
 
@@ -35,15 +35,15 @@ charted v h =
     chart-at (v - 60) (omega arith) ∙ ap (pressureOf 109 115) back
 
 -- what is the answer says what the answer says
-told : (v : ℕ) {a : SitePressure} → a ≡ standardSite v → (a ≡ standardSite v) × (answerOf a ≡ standardAnswer v)
-told v e = (e, ap answerOf e ∙ standard-says v)
+clauses : (v : ℕ) {a : SitePressure} → a ≡ standardSite v → (a ≡ standardSite v) × (siteCodeOf a ≡ standardCode v)
+clauses v e = (e, ap siteCodeOf e ∙ standard-code v)
 
 in-range-requires : tie.Need-in-range-requires
 in-range-requires c κs = search needs
 
 returns : tie.Need-returns
 unfolding standardSite
-returns c = told (c .before .before .args .speed) (rw (sym (c .before .in-range .ensures) ∙ not-true _ (c .if1 .taken)))
+returns c = clauses (c .before .before .args .speed) (rw (sym (c .before .in-range .ensures) ∙ not-true _ (c .if1 .taken)))
 
 sub-k : tie.Need-sub-k
 sub-k c = in-chart _ _ (c .before .in-range .ensures) (c .if1 .left) .0
@@ -61,7 +61,7 @@ returns-2 : tie.Need-returns-2
 unfolding chart standardSite
 returns-2 c =
     let e = c .before .in-range .ensures in
-    told (c .before .before .args .speed) (rw (sym e ∙ not-false _ (c .if1 .left)) (ap Given (charted _ (in-chart _ _ e (c .if1 .left)))))
+    clauses (c .before .before .args .speed) (rw (sym e ∙ not-false _ (c .if1 .left)) (ap Given (charted _ (in-chart _ _ e (c .if1 .left)))))
 
 pub standard-site-spec : {M : Type 1} → statement M
 standard-site-spec =

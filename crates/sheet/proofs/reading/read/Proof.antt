@@ -1,51 +1,21 @@
--- `sheet::reading::read` meets its contract. Assumes nothing.
-use mathlib.Core.Path.{_∙_, ap, sym}
+-- `sheet::reading::read` meets its contract: every byte of a slice is below 256. Assumes nothing.
+use mathlib.Core.Path.{ap}
+use native.Mathlib.Omega.{arith}
 use borrow.Author.Needs.{needs}
-use Rattle.sheet.specs.Bytes.{stepsIn, readIn}
-use Rattle.sheet.specs.Steps.{unless, inTurn}
-use Rattle.sheet.specs.Sheet.{emptySheet}
-use Rattle.sheet.proofs.AnswerLaws.{read-told}
-use Rattle.sheet.proofs.HeaderLaws.{header, header-whole}
+use Rattle.sheet.specs.declared.reading.Reading.{Reading}
+use Rattle.sheet.specs.declared.steps.Reply.{Reply}
+use Rattle.sheet.proofs.RoundTrip.{read-clauses}
 use Rattle.sheet.proofs.reading.read.Statement.{statement}
 use Rattle.sheet.proofs.reading.read.Tie as tie
 
-header-flaw-requires : tie.Need-header-flaw-requires
-header-flaw-requires c κs = search needs
-
-enum-known-flaw : tie.Need-enum-known-flaw
-enum-known-flaw c = search needs
-
-without-requires : tie.Need-without-requires
-without-requires c κs = search needs
+read-with-height-requires : tie.Need-read-with-height-requires
+read-with-height-requires c κs = search needs
 
 returns : tie.Need-returns
-unfolding readIn
-returns c = let h = c .before .before .before .before in
-    let b = h .before .before .args .bytes .now in
-    read-told b (c .without .ensures ∙ ap (λ a. unless a (inTurn emptySheet (stepsIn b))) (sym (c .before .before .flaw .given .1) ∙ h .header-flaw .ensures))
-
-enum-told : tie.Need-enum-told
-enum-told c = search needs
-
-read-tank-requires : tie.Need-read-tank-requires
-read-tank-requires c κs = let h = c .before .before in
-    let b = h .before .before .args .bytes .now in
-    header-whole b (header b (sym (h .header-flaw .ensures) ∙ c .enum-told .given .1))
-
-returns-2 : tie.Need-returns-2
-unfolding readIn
-returns-2 c = let h = c .before .before .before in
-    let b = h .before .before .args .bytes .now in
-    read-told b (c .read-tank .ensures ∙ ap (λ a. unless a (inTurn emptySheet (stepsIn b))) (sym (c .before .enum-told .given .1) ∙ h .header-flaw .ensures))
+returns c = let r = c .before in
+    let b = r .before .before .args .bytes .now in
+    read-clauses b (record { below = λ i. omega (arith, r .before .shared-slice-known .given i) })
+    (ap (λ (y : Reading). record { answer = y .answer; sheet = y .sheet }) (r .read-with-height .ensures .0))
 
 pub read-spec : {M : Type 1} → statement M
-read-spec =
-    tie.close
-    (tie.spec
-    header-flaw-requires
-    enum-known-flaw
-    without-requires
-    returns
-    enum-told
-    read-tank-requires
-    returns-2)
+read-spec = tie.close (tie.spec read-with-height-requires returns)

@@ -5,9 +5,9 @@ use lib.Dec.{T}
 use borrow.Author.Tests.{not-true, not-false}
 use borrow.Author.Needs.{needs}
 use Rattle.sheet.specs.Steps.{addCourse}
-use Rattle.sheet.proofs.AnswerLaws.{stated-told}
+use Rattle.sheet.proofs.AnswerLaws.{stated-clauses}
 use Rattle.sheet.proofs.ReachLaws.{reach-slots}
-use Rattle.sheet.proofs.StepLaws.{stated-unreachable, stated-taken}
+use Rattle.sheet.proofs.StepLaws.{stated-unreachable, stated-applied}
 use Rattle.sheet.proofs.steps.add_course.Statement.{statement}
 use Rattle.sheet.proofs.steps.add_course.Tie as tie
 
@@ -19,20 +19,20 @@ refuse-requires c κs = search needs
 
 returns : tie.Need-returns
 returns c = let a = c .before .before .before .args in
-    stated-told (a .s) (addCourse (a .c)) (c .refuse .ensures ∙ sym (stated-unreachable (a .s) (addCourse (a .c)) (sym (c .before .before .is-reachable .ensures .0) ∙ not-true _ (c .before .if1 .taken))))
+    stated-clauses (a .s) (addCourse (a .c)) (c .refuse .ensures ∙ sym (stated-unreachable (a .s) (addCourse (a .c)) (sym (c .before .before .is-reachable .ensures .0) ∙ not-true _ (c .before .if1 .taken))))
 
 height-requires : tie.Need-height-requires
 height-requires c κs = let a = c .before .before .before .args in
     reach-slots (a .s) (subst T (sym (sym (c .before .before .is-reachable .ensures .0) ∙ not-false _ (c .before .if1 .left))) tt) .few
 
-take-course-requires : tie.Need-take-course-requires
-take-course-requires c κs = let a = c .before .before .before .before .args in
+apply-course-requires : tie.Need-apply-course-requires
+apply-course-requires c κs = let a = c .before .before .before .before .args in
     let low = reach-slots (a .s) (subst T (sym (sym (c .before .before .before .is-reachable .ensures .0) ∙ not-false _ (c .before .before .if1 .left))) tt) .low in
     (c .height .ensures, omega (arith, c .height .ensures, low))
 
 returns-2 : tie.Need-returns-2
 returns-2 c = let a = c .before .before .before .before .before .args in
-    stated-told (a .s) (addCourse (a .c)) (c .take-course .ensures ∙ sym (stated-taken (a .s) (addCourse (a .c)) (sym (c .before .before .before .before .is-reachable .ensures .0) ∙ not-false _ (c .before .before .before .if1 .left))))
+    stated-clauses (a .s) (addCourse (a .c)) (c .apply-course .ensures ∙ sym (stated-applied (a .s) (addCourse (a .c)) (sym (c .before .before .before .before .is-reachable .ensures .0) ∙ not-false _ (c .before .before .before .if1 .left))))
 
 pub add-course-spec : {M : Type 1} → statement M
 add-course-spec =
@@ -42,5 +42,5 @@ add-course-spec =
     refuse-requires
     returns
     height-requires
-    take-course-requires
+    apply-course-requires
     returns-2)

@@ -3,8 +3,8 @@ use mathlib.Core.Path.{_∙_, sym}
 use borrow.Author.Tests.{not-true, not-false}
 use borrow.Author.Needs.{needs}
 use Rattle.sheet.specs.Steps.{stateAnchors}
-use Rattle.sheet.proofs.AnswerLaws.{stated-told}
-use Rattle.sheet.proofs.StepLaws.{stated-unreachable, stated-taken}
+use Rattle.sheet.proofs.AnswerLaws.{stated-clauses}
+use Rattle.sheet.proofs.StepLaws.{stated-unreachable, stated-applied}
 use Rattle.sheet.proofs.steps.state_anchors.Statement.{statement}
 use Rattle.sheet.proofs.steps.state_anchors.Tie as tie
 
@@ -16,16 +16,16 @@ refuse-requires c κs = search needs
 
 returns : tie.Need-returns
 returns c = let a = c .before .before .before .args in
-    stated-told (a .s) (stateAnchors (a .a)) (c .refuse .ensures ∙ sym (stated-unreachable (a .s) (stateAnchors (a .a)) (sym (c .before .before .is-reachable .ensures .0) ∙ not-true _ (c .before .if1 .taken))))
+    stated-clauses (a .s) (stateAnchors (a .a)) (c .refuse .ensures ∙ sym (stated-unreachable (a .s) (stateAnchors (a .a)) (sym (c .before .before .is-reachable .ensures .0) ∙ not-true _ (c .before .if1 .taken))))
 
-take-anchors-requires : tie.Need-take-anchors-requires
-take-anchors-requires c κs = search needs
+apply-anchors-requires : tie.Need-apply-anchors-requires
+apply-anchors-requires c κs = search needs
 
 returns-2 : tie.Need-returns-2
 returns-2 c = let a = c .before .before .before .args in
-    stated-told (a .s) (stateAnchors (a .a)) (c .take-anchors .ensures ∙ sym (stated-taken (a .s) (stateAnchors (a .a)) (sym (c .before .before .is-reachable .ensures .0) ∙ not-false _ (c .before .if1 .left))))
+    stated-clauses (a .s) (stateAnchors (a .a)) (c .apply-anchors .ensures ∙ sym (stated-applied (a .s) (stateAnchors (a .a)) (sym (c .before .before .is-reachable .ensures .0) ∙ not-false _ (c .before .if1 .left))))
 
 pub state-anchors-spec : {M : Type 1} → statement M
 state-anchors-spec =
     tie.close
-    (tie.spec is-reachable-requires refuse-requires returns take-anchors-requires returns-2)
+    (tie.spec is-reachable-requires refuse-requires returns apply-anchors-requires returns-2)

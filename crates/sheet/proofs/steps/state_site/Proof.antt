@@ -3,8 +3,8 @@ use mathlib.Core.Path.{_∙_, sym}
 use borrow.Author.Tests.{not-true, not-false}
 use borrow.Author.Needs.{needs}
 use Rattle.sheet.specs.Steps.{stateSite}
-use Rattle.sheet.proofs.AnswerLaws.{stated-told}
-use Rattle.sheet.proofs.StepLaws.{stated-unreachable, stated-taken}
+use Rattle.sheet.proofs.AnswerLaws.{stated-clauses}
+use Rattle.sheet.proofs.StepLaws.{stated-unreachable, stated-applied}
 use Rattle.sheet.proofs.steps.state_site.Statement.{statement}
 use Rattle.sheet.proofs.steps.state_site.Tie as tie
 
@@ -16,15 +16,15 @@ refuse-requires c κs = search needs
 
 returns : tie.Need-returns
 returns c = let a = c .before .before .before .args in
-    stated-told (a .s) (stateSite (a .x)) (c .refuse .ensures ∙ sym (stated-unreachable (a .s) (stateSite (a .x)) (sym (c .before .before .is-reachable .ensures .0) ∙ not-true _ (c .before .if1 .taken))))
+    stated-clauses (a .s) (stateSite (a .x)) (c .refuse .ensures ∙ sym (stated-unreachable (a .s) (stateSite (a .x)) (sym (c .before .before .is-reachable .ensures .0) ∙ not-true _ (c .before .if1 .taken))))
 
-take-site-requires : tie.Need-take-site-requires
-take-site-requires c κs = search needs
+apply-site-requires : tie.Need-apply-site-requires
+apply-site-requires c κs = search needs
 
 returns-2 : tie.Need-returns-2
 returns-2 c = let a = c .before .before .before .args in
-    stated-told (a .s) (stateSite (a .x)) (c .take-site .ensures ∙ sym (stated-taken (a .s) (stateSite (a .x)) (sym (c .before .before .is-reachable .ensures .0) ∙ not-false _ (c .before .if1 .left))))
+    stated-clauses (a .s) (stateSite (a .x)) (c .apply-site .ensures ∙ sym (stated-applied (a .s) (stateSite (a .x)) (sym (c .before .before .is-reachable .ensures .0) ∙ not-false _ (c .before .if1 .left))))
 
 pub state-site-spec : {M : Type 1} → statement M
 state-site-spec =
-    tie.close (tie.spec is-reachable-requires refuse-requires returns take-site-requires returns-2)
+    tie.close (tie.spec is-reachable-requires refuse-requires returns apply-site-requires returns-2)

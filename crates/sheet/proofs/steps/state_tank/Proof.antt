@@ -3,8 +3,8 @@ use mathlib.Core.Path.{_∙_, sym}
 use borrow.Author.Tests.{not-true, not-false}
 use borrow.Author.Needs.{needs}
 use Rattle.sheet.specs.Steps.{stateTank}
-use Rattle.sheet.proofs.AnswerLaws.{stated-told}
-use Rattle.sheet.proofs.StepLaws.{stated-unreachable, stated-taken}
+use Rattle.sheet.proofs.AnswerLaws.{stated-clauses}
+use Rattle.sheet.proofs.StepLaws.{stated-unreachable, stated-applied}
 use Rattle.sheet.proofs.steps.state_tank.Statement.{statement}
 use Rattle.sheet.proofs.steps.state_tank.Tie as tie
 
@@ -16,15 +16,15 @@ refuse-requires c κs = search needs
 
 returns : tie.Need-returns
 returns c = let a = c .before .before .before .args in
-    stated-told (a .s) (stateTank (a .t)) (c .refuse .ensures ∙ sym (stated-unreachable (a .s) (stateTank (a .t)) (sym (c .before .before .is-reachable .ensures .0) ∙ not-true _ (c .before .if1 .taken))))
+    stated-clauses (a .s) (stateTank (a .t)) (c .refuse .ensures ∙ sym (stated-unreachable (a .s) (stateTank (a .t)) (sym (c .before .before .is-reachable .ensures .0) ∙ not-true _ (c .before .if1 .taken))))
 
-take-tank-requires : tie.Need-take-tank-requires
-take-tank-requires c κs = search needs
+apply-tank-requires : tie.Need-apply-tank-requires
+apply-tank-requires c κs = search needs
 
 returns-2 : tie.Need-returns-2
 returns-2 c = let a = c .before .before .before .args in
-    stated-told (a .s) (stateTank (a .t)) (c .take-tank .ensures ∙ sym (stated-taken (a .s) (stateTank (a .t)) (sym (c .before .before .is-reachable .ensures .0) ∙ not-false _ (c .before .if1 .left))))
+    stated-clauses (a .s) (stateTank (a .t)) (c .apply-tank .ensures ∙ sym (stated-applied (a .s) (stateTank (a .t)) (sym (c .before .before .is-reachable .ensures .0) ∙ not-false _ (c .before .if1 .left))))
 
 pub state-tank-spec : {M : Type 1} → statement M
 state-tank-spec =
-    tie.close (tie.spec is-reachable-requires refuse-requires returns take-tank-requires returns-2)
+    tie.close (tie.spec is-reachable-requires refuse-requires returns apply-tank-requires returns-2)

@@ -1,7 +1,7 @@
 -- `text::printing::print` meets its contract. Assumes nothing.
 use native.Mathlib.Omega.{arith}
 use borrow.Author.Needs.{needs}
-use Rattle.text.specs.Text.{textOf}
+use Rattle.lines.specs.Text.{textOf}
 use Rattle.text.proofs.PrintLaws.{whole}
 use Rattle.text.proofs.printing.print.Statement.{statement}
 use Rattle.text.proofs.printing.print.Tie as tie

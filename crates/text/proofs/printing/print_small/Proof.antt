@@ -3,7 +3,7 @@ use mathlib.Core.Path.{sym}
 use native.Mathlib.Omega.{arith}
 use lib.Seq.{length-take-le}
 use borrow.Author.Needs.{needs}
-use Rattle.text.specs.Text.{textOf}
+use Rattle.lines.specs.Text.{textOf}
 use Rattle.text.proofs.PrintLaws.{whole, no-room, take-text}
 use Rattle.text.proofs.printing.print_small.Statement.{statement}
 use Rattle.text.proofs.printing.print_small.Tie as tie

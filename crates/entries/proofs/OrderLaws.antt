@@ -1,0 +1,168 @@
+-- The laws of orders: which refusal is the answer, and how an order is gone through part by part.
+-- Assumes nothing.
+use mathlib.Core.Path.{_≡_, refl, sym, ap, _∙_, subst}
+use mathlib.Core.Bool.{Bool, true, false, cond}
+use mathlib.Core.List.{List, [], _∷_, _++_}
+use mathlib.Core.Logic.{_↔_}
+use Prim.Native.Nat.{ℕ, zero, suc, _+_, _≤_, _<_, zero-le, suc-le-suc}
+use native.Mathlib.Nat.{le-of-suc-le-suc, not-suc-le-zero}
+use native.Mathlib.Numerals.{add-one}
+use native.Mathlib.Omega.{arith}
+use lib.Dec.{T, eqb}
+use lib.ListN.{length, getD, drop, drop-of-length-le}
+use lib.Seq.{drop-cons}
+use Rattle.fields.specs.Range.{range, within}
+use Rattle.fields.specs.declared.refusal.Refusal.the-variants.{OutOfRange}
+use Rattle.fields.specs.Refusal.{plain, codeOf}
+use Rattle.fields.specs.declared.refusal.Code.{Code}
+use Rattle.fields.specs.declared.refusal.Refusal.{Refusal}
+use Rattle.fields.proofs.RefusalLaws.{never-zero}
+use Rattle.entries.specs.Order.{Condition, firstOf, andThen, orElse, at, First, accepts, clear, numbered, outside, answerCode, firstCode}
+use Rattle.entries.specs.declared.answer.Answer.{Answer}
+use Rattle.entries.specs.declared.answer.Answer.the-variants.{Accepted, Refused}
+
+-- an answer is not both
+pub clash : {X : Type 0} {r : Refusal} → Refused r ≡ Accepted → X
+clash e = absurd (let z : _≡_ {A = ℕ} 0 1 = cc in omega arith)
+
+-- THE LAW OF EVERY ORDER: the answer is the refusal r exactly where r's condition applies at some place and none before it does.
+to-first : (cs : List Condition) (r : Refusal) → firstOf cs ≡ Refused r → First cs r
+to-first [] r e = clash (sym e)
+to-first (c ∷ cs) r e = go (to-first cs r) (c .applies) refl e
+  where
+    later : First cs r → c .applies ≡ false → First (c ∷ cs) r
+    later f h =
+        record {
+          place = suc (f .place);
+          inside = suc-le-suc (f .inside);
+          refusal = f .refusal;
+          applies = f .applies;
+          none-before = before;
+        }
+      where
+        before : (j : ℕ) → j < suc (f .place) → at (c ∷ cs) j .applies ≡ false
+        before zero l = h
+        before (suc j) l = f .none-before j (le-of-suc-le-suc l)
+
+    go : (firstOf cs ≡ Refused r → First cs r) → (b : Bool) → c .applies ≡ b → cond b (Refused (c .refusal)) (firstOf cs) ≡ Refused r
+        → First (c ∷ cs) r
+    go rest true h k =
+        record {
+          place = 0;
+          inside = suc-le-suc zero-le;
+          refusal = cc;
+          applies = h;
+          none-before = λ j l. absurd (not-suc-le-zero l);
+        }
+    go rest false h k = later (rest k) h
+
+of-first : (cs : List Condition) (r : Refusal) (k : ℕ) → k < length cs → at cs k .refusal ≡ r → at cs k .applies ≡ true
+    → ((j : ℕ) → j < k → at cs j .applies ≡ false) → firstOf cs ≡ Refused r
+of-first [] r k l e h n = absurd (not-suc-le-zero l)
+of-first (c ∷ cs) r zero l e h n = rw h (ap Refused e)
+of-first (c ∷ cs) r (suc k) l e h n =
+    rw (n 0 (suc-le-suc zero-le)) (of-first cs r k (le-of-suc-le-suc l) e h (λ j i. n (suc j) (suc-le-suc i)))
+
+pub first-exactly : (cs : List Condition) (r : Refusal) → (firstOf cs ≡ Refused r) ↔ First cs r
+first-exactly cs r =
+    (to-first cs r, λ f. of-first cs r (f .place) (f .inside) (f .refusal) (f .applies) (f .none-before))
+
+-- and it is accepted exactly where no condition applies
+pub none-exactly : (cs : List Condition) → (firstOf cs ≡ Accepted) ↔ ((j : ℕ) → j < length cs → at cs j .applies ≡ false)
+none-exactly [] = (λ e j l. absurd (not-suc-le-zero l), λ n. refl)
+none-exactly (c ∷ cs) = (
+  there (none-exactly cs .0) (c .applies) refl,
+  λ n. rw (n 0 (suc-le-suc zero-le)) (none-exactly cs .1 (λ j l. n (suc j) (suc-le-suc l))),
+)
+  where
+    step : c .applies ≡ false → ((j : ℕ) → j < length cs → at cs j .applies ≡ false)
+        → (j : ℕ) → j < suc (length cs) → at (c ∷ cs) j .applies ≡ false
+    step h n zero l = h
+    step h n (suc j) l = n j (le-of-suc-le-suc l)
+
+    there : (firstOf cs ≡ Accepted → (j : ℕ) → j < length cs → at cs j .applies ≡ false)
+        → (b : Bool) → c .applies ≡ b → cond b (Refused (c .refusal)) (firstOf cs) ≡ Accepted
+        → (j : ℕ) → j < suc (length cs) → at (c ∷ cs) j .applies ≡ false
+    there rest true h e = clash e
+    there rest false h e = step h (rest e)
+
+-- an order part by part
+pub first-then : (xs ys : List Condition) → firstOf (xs ++ ys) ≡ andThen (firstOf xs) (firstOf ys)
+first-then [] ys = refl
+first-then (x ∷ xs) ys = go (first-then xs ys) (x .applies)
+  where
+    go : firstOf (xs ++ ys) ≡ andThen (firstOf xs) (firstOf ys) → (b : Bool)
+        → cond b (Refused (x .refusal)) (firstOf (xs ++ ys)) ≡ andThen (cond b (Refused (x .refusal)) (firstOf xs)) (firstOf ys)
+    go rest true = refl
+    go rest false = rest
+
+pub first-cons : (c : Condition) (cs : List Condition) → firstOf (c ∷ cs) ≡ Accepted → (c .applies ≡ false) × (firstOf cs ≡ Accepted)
+first-cons c cs e = go (c .applies) e
+  where
+    go : (b : Bool) → cond b (Refused (c .refusal)) (firstOf cs) ≡ Accepted → (b ≡ false) × (firstOf cs ≡ Accepted)
+    go true e = clash e
+    go false e = (refl, e)
+
+pub first-append : (xs ys : List Condition) → firstOf (xs ++ ys) ≡ Accepted → (firstOf xs ≡ Accepted) × (firstOf ys ≡ Accepted)
+first-append xs ys e = go (firstOf xs) (sym (first-then xs ys) ∙ e)
+  where
+    go : (a : Answer) → andThen a (firstOf ys) ≡ Accepted → (a ≡ Accepted) × (firstOf ys ≡ Accepted)
+    go Accepted e = (refl, e)
+    go (Refused r) e = clash e
+
+-- the test `clear`, and the answer
+pub clear-accepted : (cs : List Condition) → T (clear cs) → firstOf cs ≡ Accepted
+unfolding clear
+clear-accepted cs t = go (firstOf cs) t
+  where
+    go : (a : Answer) → T (accepts a) → a ≡ Accepted
+    go Accepted t = refl
+    go (Refused r) t = absurd t
+
+pub accepted-clear : (cs : List Condition) → firstOf cs ≡ Accepted → T (clear cs)
+unfolding clear
+accepted-clear cs e = rw e tt
+
+-- 16, field by field, from place i of the figures on
+module _ (k i : ℕ) (xs : List ℕ) where
+  pub outside-here : i < length xs → within (range k) (getD xs i 0) ≡ false
+      → firstOf (outside (numbered k (drop i xs))) ≡ Refused (OutOfRange k)
+  outside-here l e = rw (drop-cons xs i 0 l, e)
+
+  pub outside-next : i < length xs → within (range k) (getD xs i 0) ≡ true
+      → firstOf (outside (numbered k (drop i xs))) ≡ firstOf (outside (numbered (k + 1) (drop (i + 1) xs)))
+  outside-next l e = rw (drop-cons xs i 0 l, e, add-one k, add-one i)
+
+  pub outside-end : length xs ≤ i → firstOf (outside (numbered k (drop i xs))) ≡ Accepted
+  outside-end l = rw (drop-of-length-le xs l)
+
+-- a step's ranges, and the one condition after them
+pub flaws-of : (k : ℕ) (xs : List ℕ) (c : Condition) {ys : List ℕ} {a b : Answer}
+    → b ≡ orElse a c → a ≡ firstOf (outside (numbered k ys)) → ys ≡ xs → b ≡ firstOf (outside (numbered k xs) ++ c ∷ [])
+flaws-of k xs c e f g =
+    e
+    ∙ ap (λ (a : Answer). orElse a c) (f ∙ ap (λ (l : List ℕ). firstOf (outside (numbered k l))) g)
+    ∙ sym (first-then (outside (numbered k xs)) (c ∷ []))
+
+pub clear-of : (cs : List Condition) {a : Answer} {b : Bool} → b ≡ accepts a → a ≡ firstOf cs → clear cs ≡ b
+unfolding clear
+clear-of cs e f = sym (e ∙ ap accepts f)
+
+-- the code of the answer
+pub first-code : (cs : List Condition) → answerCode (firstOf cs) ≡ firstCode cs
+first-code [] = refl
+first-code (c ∷ cs) = go (c .applies) (first-code cs)
+  where
+    go : (b : Bool) → answerCode (firstOf cs) ≡ firstCode cs
+        → answerCode (cond b (Refused (c .refusal)) (firstOf cs)) ≡ cond b (codeOf (c .refusal)) (firstCode cs)
+    go true e = refl
+    go false e = e
+
+-- the two clauses of a function that answers an order
+pub coded : (cs : List Condition) {a : Answer} → a ≡ firstOf cs → (a ≡ firstOf cs) × (answerCode a ≡ firstCode cs)
+coded cs e = (e, ap answerCode e ∙ first-code cs)
+
+-- code 0 is no refusal's
+pub accepted-code : (a : Answer) → answerCode a ≡ plain 0 → a ≡ Accepted
+accepted-code Accepted e = refl
+accepted-code (Refused r) e = absurd (subst T (sym (ap (λ (p : Code). eqb (p .number) 0) e) ∙ never-zero r) tt)

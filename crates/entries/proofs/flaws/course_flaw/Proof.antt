@@ -1,0 +1,33 @@
+-- `entries::flaws::course_flaw` meets its contract. Assumes nothing.
+use borrow.Author.Needs.{needs}
+use Rattle.entries.specs.Sheet.{allowanceTooLarge, courseFigures, courseFlaws}
+use Rattle.entries.proofs.OrderLaws.{flaws-of, coded}
+use Rattle.entries.proofs.flaws.course_flaw.Statement.{statement}
+use Rattle.entries.proofs.flaws.course_flaw.Tie as tie
+
+figures-requires : tie.Need-figures-requires
+figures-requires c κs = search needs
+
+slice-aggregate-ranges-flaw : tie.Need-slice-aggregate-ranges-flaw
+slice-aggregate-ranges-flaw c = search needs
+
+ranges-flaw-requires : tie.Need-ranges-flaw-requires
+ranges-flaw-requires c κs = search needs
+
+or-else-requires : tie.Need-or-else-requires
+or-else-requires c κs = search needs
+
+returns : tie.Need-returns
+unfolding courseFlaws
+returns c = let t = c .before .before .before .before .before .args .c in
+    coded (courseFlaws t) (flaws-of 15 (courseFigures t) (allowanceTooLarge (t .plate) (t .allowance)) (c .or-else .ensures) (c .before .before .ranges-flaw .ensures) (c .before .before .before .before .figures .ensures))
+
+pub course-flaw-spec : {M : Type 1} → statement M
+course-flaw-spec =
+    tie.close
+    (tie.spec
+    figures-requires
+    slice-aggregate-ranges-flaw
+    ranges-flaw-requires
+    or-else-requires
+    returns)

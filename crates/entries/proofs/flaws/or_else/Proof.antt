@@ -1,0 +1,22 @@
+-- `entries::flaws::or_else` meets its contract. Assumes nothing.
+use borrow.Author.Needs.{needs}
+use Rattle.entries.proofs.flaws.or_else.Statement.{statement}
+use Rattle.entries.proofs.flaws.or_else.Tie as tie
+
+enum-told : tie.Need-enum-told
+enum-told c = search needs
+
+enum-told-2 : tie.Need-enum-told-2
+enum-told-2 c = search needs
+
+returns : tie.Need-returns
+returns c = search needs
+
+returns-2 : tie.Need-returns-2
+returns-2 c = rw (c .before .enum-told .given .1, c .if1 .taken)
+
+returns-3 : tie.Need-returns-3
+returns-3 c = search needs
+
+pub or-else-spec : {M : Type 1} → statement M
+or-else-spec = tie.close (tie.spec enum-told enum-told-2 returns returns-2 returns-3)

@@ -1,0 +1,16 @@
+// What a check sheet is made of: its entries and the sheet that holds them, what the figures of a step are
+// refused for, and orders of refusals. Nothing here knows bytes, steps or rules.
+mod answer;
+pub mod flaws;
+mod sheet;
+
+pub use answer::Answer;
+pub use sheet::Anchors;
+pub use sheet::Course;
+pub use sheet::MOST_COURSES;
+pub use sheet::MOST_HEIGHT;
+pub use sheet::Sheet;
+pub use sheet::Site;
+pub use sheet::SiteEntry;
+pub use sheet::Tank;
+pub use sheet::TankEntry;

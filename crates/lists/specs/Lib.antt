@@ -1,0 +1,3 @@
+pub mod Ascii
+pub mod Each
+pub mod Pad

@@ -1,0 +1,45 @@
+-- What the test for 30 asks of a sheet's parts: tank, site, anchors and each course have no flaw, the shell is not too high, and the
+-- slots past the count are blank. Before the tank nothing else can have been stated. (`sheet`'s `left-exactly`: the sheets that pass
+-- are exactly those that a run of steps leaves.)
+use mathlib.Core.Bool.{Bool, true, false, _&&_}
+use mathlib.Core.List.{List}
+use Prim.Native.Nat.{ℕ}
+use lib.Dec.{leb, eqb}
+use lib.ListN.{length, take, drop}
+use Rattle.lists.specs.Each.{each}
+use Rattle.entries.specs.Order.{clear}
+use Rattle.entries.specs.Sheet.{heightOf, tankFlaws, siteFlaws, anchorFlaws, courseFlaws, anchorFigures, courseFigures}
+use Rattle.entries.specs.declared.sheet.Anchors.{Anchors}
+use Rattle.entries.specs.declared.sheet.Course.{Course}
+use Rattle.entries.specs.declared.sheet.TankEntry as TankEntry
+use Rattle.entries.specs.declared.sheet.SiteEntry as SiteEntry
+
+abbrev pub blank : List ℕ → Bool
+blank xs = each (λ x. eqb x 0) xs
+
+abbrev pub siteBlank : SiteEntry.SiteEntry → Bool
+siteBlank SiteEntry.the-variants.Blank = true
+siteBlank (SiteEntry.the-variants.Filled x) = false
+
+abbrev pub siteClear : SiteEntry.SiteEntry → Bool
+siteClear SiteEntry.the-variants.Blank = true
+siteClear (SiteEntry.the-variants.Filled x) = clear (siteFlaws x)
+
+unfoldable pub coursesClear : List Course → Bool
+coursesClear cs = each (λ c. clear (courseFlaws c)) cs
+
+unfoldable pub coursesBlank : List Course → Bool
+coursesBlank cs = each (λ c. blank (courseFigures c)) cs
+
+-- n courses in twelve slots
+unfoldable pub slotsReachable : List Course → ℕ → Bool
+slotsReachable cs n =
+    eqb (length cs) 12
+    && leb n 12
+    && coursesClear (take n cs)
+    && leb (heightOf (take n cs)) 76800
+    && coursesBlank (drop n cs)
+
+abbrev pub partsReachable : TankEntry.TankEntry → SiteEntry.SiteEntry → Anchors → ℕ → Bool
+partsReachable TankEntry.the-variants.Blank x a n = siteBlank x && blank (anchorFigures a) && eqb n 0
+partsReachable (TankEntry.the-variants.Filled t) x a n = clear (tankFlaws t) && siteClear x && clear (anchorFlaws (t .diameter) a)

@@ -1,0 +1,51 @@
+-- The figures of a sheet: each rule of document 01 on what a sheet holds, rounded for the report and exact for demand 3, side by side.
+use Prim.Native.Nat.{ℕ, _-_}
+use lib.IntN.{ℤ}
+use Rattle.exact.specs.Quotient.{Ratio}
+use Rattle.fields.specs.Bolt.{stressArea}
+use Rattle.stability.specs.Anchors.{pullOf, Strong}
+use Rattle.stability.specs.Earthquake.{shellWeight, bottomWeight, resistanceOf, Resists}
+use Rattle.rules.specs.Hoop.{headOf, hoopExact, hoopNeed}
+use Rattle.rules.specs.Wind.{pressureOf, momentExact, momentOf}
+use Rattle.entries.specs.declared.sheet.Tank.{Tank}
+use Rattle.entries.specs.declared.sheet.Site.{Site}
+use Rattle.entries.specs.declared.sheet.Anchors.{Anchors}
+use Rattle.entries.specs.declared.sheet.Course.{Course}
+
+-- the hoop need of a course whose bottom edge is at y, without its allowance
+abbrev pub needOn : Tank → ℕ → Course → ℕ
+needOn tank y course = hoopNeed (headOf (tank .level) y) (tank .diameter) (course .stress) (course .efficiency)
+
+abbrev pub needExactOn : Tank → ℕ → Course → Ratio
+needExactOn tank y course = hoopExact (headOf (tank .level) y) (tank .diameter) (course .stress) (course .efficiency)
+
+-- wind: p, and M on a shell of height Hs
+abbrev pub pressureOn : Site → ℕ
+pressureOn site = pressureOf (site .exposure) (site .importance) (site .speed)
+
+abbrev pub momentOn : Tank → Site → ℕ → ℕ
+momentOn tank site Hs = momentOf (pressureOn site) (tank .diameter) Hs
+
+abbrev pub momentExactOn : Tank → Site → ℕ → Ratio
+momentExactOn tank site Hs = momentExact (site .exposure) (site .importance) (site .speed) (tank .diameter) Hs
+
+-- self-anchored: T, and whether the unrounded resistance is at least a fraction; tb is the bottom plate less its allowance
+abbrev pub bottomPlate : Tank → ℕ
+bottomPlate tank = tank .plate - tank .allowance
+
+unfoldable pub resistanceOn : Tank → Site → ℕ
+resistanceOn tank site =
+    resistanceOf (tank .diameter)
+    (shellWeight (tank .weight) (site .vertical) (tank .diameter))
+    (bottomWeight (bottomPlate tank) (tank .fy) (tank .level) (tank .diameter))
+
+unfoldable pub ResistsOn : Tank → Site → Ratio → Type 0
+ResistsOn tank site f = Resists (tank .weight) (site .vertical) (tank .diameter) (tank .level) (bottomPlate tank) (tank .fy) f
+
+-- anchored: the net pull per anchor of a moment, and whether the anchors hold the unrounded pull of one, with a margin
+abbrev pub pullOn : Tank → Anchors → ℕ → ℤ
+pullOn tank anchors moment = pullOf moment (tank .weight) (anchors .circle) (anchors .number)
+
+abbrev pub StrongOn : Tank → Anchors → Ratio → Ratio → Type 0
+StrongOn tank anchors moment margin =
+    Strong moment (tank .weight) (anchors .circle) (anchors .number) (stressArea (anchors .size)) margin

@@ -1,0 +1,30 @@
+// The answer to what judging and writing ask of a sheet first (document 01, "Filling in" and "Order"). The
+// functions are in the crate `complete`.
+use entries::Anchors;
+use entries::Course;
+use entries::Site;
+use entries::Tank;
+use fields::Refusal;
+
+// What a complete sheet holds, with the height of its shell. Judging, writing and demand 3 take these, and nothing else of a sheet.
+pub struct Entries {
+    pub tank: Tank,
+    pub site: Site,
+    pub anchors: Anchors,
+    pub courses: [Course; 12],
+    pub count: usize,
+    pub height: u32,
+}
+
+// 30 stands apart from the other refusals, since S-3 of document 02 has judging refuse between it and 32.
+pub enum Completeness {
+    Unreachable,
+    Refused(Refusal),
+    Complete,
+}
+
+// The entries are those of a complete sheet; beside a refusal they are blank.
+pub struct Completed {
+    pub status: Completeness,
+    pub entries: Entries,
+}

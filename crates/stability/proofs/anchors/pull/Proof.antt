@@ -1,0 +1,62 @@
+-- `stability::anchors::pull` meets its contract: the products fit, so each number is read back from its bits. Assumes nothing.
+use Prim.Native.Nat.{_*_}
+use native.Mathlib.Nat.{mul-le-mul, mul-pos}
+use lib.Dec.{lt→ltb}
+use lib.Signed.{ltZ-yes}
+use native.Mathlib.Omega.{arith}
+use mir.Syntax.{w64}
+use mir.Facts.{toZ-ofZ}
+use borrow.Author.Needs.{needs}
+use Rattle.exact.proofs.Products.{mul-fits, mul-sfits}
+use Rattle.exact.proofs.SignedLaws.{sub-fits}
+use Rattle.stability.specs.Anchors.{pullExact, pullOf}
+use Rattle.stability.proofs.anchors.pull.Statement.{statement}
+use Rattle.stability.proofs.anchors.pull.Tie as tie
+
+mul-up : tie.Need-mul-up
+mul-up c = search needs
+
+mul-down : tie.Need-mul-down
+mul-down c = mul-fits (c .pre .1 .0 .1) (c .pre .1 .1 .1 .0 .1) tt
+
+mul-den : tie.Need-mul-den
+mul-den c = mul-fits (c .pre .1 .1 .1 .1 .1) (c .pre .1 .1 .1 .0 .1) tt
+
+cast-up-signed : tie.Need-cast-up-signed
+cast-up-signed c = search needs
+
+cast-up-signed-2 : tie.Need-cast-up-signed-2
+cast-up-signed-2 c = mul-sfits (c .pre .1 .0 .1) (c .pre .1 .1 .1 .0 .1) tt
+
+sub-up-signed : tie.Need-sub-up-signed
+sub-up-signed c =
+    let a = c .args in
+    rw (toZ-ofZ (cast-up-signed c), toZ-ofZ (cast-up-signed-2 c))
+    (sub-fits (4800 * a .moment) (a .weight * a .circle) (omega (arith, mul-le-mul (c .pre .1 .0 .1) (c .pre .1 .1 .1 .0 .1))))
+
+cast-up-signed-3 : tie.Need-cast-up-signed-3
+cast-up-signed-3 c = mul-sfits (c .pre .1 .1 .1 .1 .1) (c .pre .1 .1 .1 .0 .1) tt
+
+up-signed-requires : tie.Need-up-signed-requires
+up-signed-requires c κs = rw (toZ-ofZ (cast-up-signed-3 c)) (ltZ-yes (lt→ltb 0 _ (mul-pos (omega arith) (c .pre .1 .1 .0))))
+
+returns : tie.Need-returns
+unfolding pullOf pullExact
+returns c =
+    let s = c .before in
+    rw (toZ-ofZ {w = w64} {z = c .up-signed .result} (record { sfits = c .up-signed .ok }))
+    (rw (toZ-ofZ (sub-up-signed s), toZ-ofZ (cast-up-signed s), toZ-ofZ (cast-up-signed-2 s), toZ-ofZ (cast-up-signed-3 s)) at (c .up-signed .ensures))
+
+pub pull-spec : {M : Type 1} → statement M
+pull-spec =
+    tie.close
+    (tie.spec
+    mul-up
+    mul-down
+    mul-den
+    cast-up-signed
+    cast-up-signed-2
+    sub-up-signed
+    cast-up-signed-3
+    up-signed-requires
+    returns)

@@ -1,0 +1,3 @@
+pub mod Earthquake
+pub mod Anchors
+pub mod Bounds
