@@ -5,8 +5,8 @@ use mathlib.Core.List.{List, [], _∷_, _++_}
 use Prim.Native.Nat.{ℕ, _+_, _≤_, _<_}
 use native.Mathlib.Numerals.{add-one}
 use native.Mathlib.Omega.{arith}
-use lib.ListN.{length, getD, take, drop, take-append-drop}
-use lib.Seq.{take-all, take-suc, take-take, getD-take, length-take-le}
+use lib.ListN.{length, getD, set, take, drop, take-append-drop}
+use lib.Seq.{take-all, take-suc, take-suc-set, take-take, getD-take, length-take-le}
 use Rattle.entries.specs.Sheet.{blankCourse, heightOf}
 use Rattle.entries.specs.declared.sheet.Course.{Course}
 
@@ -19,6 +19,9 @@ pub height-next : (cs : List Course) (i : ℕ) → i < length cs → heightOf (t
 height-next cs i h =
     rw (add-one i, take-suc cs i blankCourse h)
     (omega (arith, height-append (take i cs) (getD cs i blankCourse ∷ [])))
+
+pub height-set : (cs : List Course) (i : ℕ) (c : Course) → i < length cs → heightOf (take (i + 1) (set cs i c)) ≡ heightOf (take i cs) + c .width
+height-set cs i c h = rw (add-one i, take-suc-set cs i c h) (omega (arith, height-append (take i cs) (c ∷ [])))
 
 -- a count past the courses
 pub all-high : (cs : List Course) (n : ℕ) → length cs ≤ n → heightOf (take n cs) ≡ heightOf cs

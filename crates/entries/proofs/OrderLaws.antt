@@ -4,20 +4,16 @@ use mathlib.Core.Path.{_≡_, refl, sym, ap, _∙_, subst}
 use mathlib.Core.Bool.{Bool, true, false, cond}
 use mathlib.Core.List.{List, [], _∷_, _++_}
 use mathlib.Core.Logic.{_↔_}
-use Prim.Native.Nat.{ℕ, zero, suc, _+_, _≤_, _<_, zero-le, suc-le-suc}
+use Prim.Native.Nat.{ℕ, zero, suc, _<_, zero-le, suc-le-suc}
 use native.Mathlib.Nat.{le-of-suc-le-suc, not-suc-le-zero}
-use native.Mathlib.Numerals.{add-one}
 use native.Mathlib.Omega.{arith}
 use lib.Dec.{T, eqb}
-use lib.ListN.{length, getD, drop, drop-of-length-le}
-use lib.Seq.{drop-cons}
-use Rattle.fields.specs.Range.{range, within}
-use Rattle.fields.specs.declared.refusal.Refusal.the-variants.{OutOfRange}
+use lib.ListN.{length}
 use Rattle.fields.specs.Refusal.{plain, codeOf}
 use Rattle.fields.specs.declared.refusal.Code.{Code}
 use Rattle.fields.specs.declared.refusal.Refusal.{Refusal}
 use Rattle.fields.proofs.RefusalLaws.{never-zero}
-use Rattle.entries.specs.Order.{Condition, firstOf, andThen, orElse, at, First, accepts, clear, numbered, outside, answerCode, firstCode}
+use Rattle.entries.specs.Order.{Condition, firstOf, andThen, orElse, at, First, accepts, clear, answerCode, firstCode}
 use Rattle.entries.specs.declared.answer.Answer.{Answer}
 use Rattle.entries.specs.declared.answer.Answer.the-variants.{Accepted, Refused}
 
@@ -123,26 +119,21 @@ pub accepted-clear : (cs : List Condition) → firstOf cs ≡ Accepted → T (cl
 unfolding clear
 accepted-clear cs e = rw e tt
 
--- 16, field by field, from place i of the figures on
-module _ (k i : ℕ) (xs : List ℕ) where
-  pub outside-here : i < length xs → within (range k) (getD xs i 0) ≡ false
-      → firstOf (outside (numbered k (drop i xs))) ≡ Refused (OutOfRange k)
-  outside-here l e = rw (drop-cons xs i 0 l, e)
+-- and condition by condition, from the answer to those before
+abbrev through : Answer → List Condition → Answer
+through a [] = a
+through a (c ∷ cs) = through (orElse a c) cs
 
-  pub outside-next : i < length xs → within (range k) (getD xs i 0) ≡ true
-      → firstOf (outside (numbered k (drop i xs))) ≡ firstOf (outside (numbered (k + 1) (drop (i + 1) xs)))
-  outside-next l e = rw (drop-cons xs i 0 l, e, add-one k, add-one i)
-
-  pub outside-end : length xs ≤ i → firstOf (outside (numbered k (drop i xs))) ≡ Accepted
-  outside-end l = rw (drop-of-length-le xs l)
-
--- a step's ranges, and the one condition after them
-pub flaws-of : (k : ℕ) (xs : List ℕ) (c : Condition) {ys : List ℕ} {a b : Answer}
-    → b ≡ orElse a c → a ≡ firstOf (outside (numbered k ys)) → ys ≡ xs → b ≡ firstOf (outside (numbered k xs) ++ c ∷ [])
-flaws-of k xs c e f g =
-    e
-    ∙ ap (λ (a : Answer). orElse a c) (f ∙ ap (λ (l : List ℕ). firstOf (outside (numbered k l))) g)
-    ∙ sym (first-then (outside (numbered k xs)) (c ∷ []))
+pub through-first : (a : Answer) (cs : List Condition) → through a cs ≡ andThen a (firstOf cs)
+through-first Accepted [] = refl
+through-first (Refused r) [] = refl
+through-first a (c ∷ cs) = through-first (orElse a c) cs ∙ go a (c .applies)
+  where
+    go : (a : Answer) (b : Bool)
+        → andThen (andThen a (cond b (Refused (c .refusal)) Accepted)) (firstOf cs) ≡ andThen a (cond b (Refused (c .refusal)) (firstOf cs))
+    go (Refused r) b = refl
+    go Accepted true = refl
+    go Accepted false = refl
 
 pub clear-of : (cs : List Condition) {a : Answer} {b : Bool} → b ≡ accepts a → a ≡ firstOf cs → clear cs ≡ b
 unfolding clear

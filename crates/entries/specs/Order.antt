@@ -3,7 +3,7 @@
 use mathlib.Core.Path.{_≡_}
 use mathlib.Core.Bool.{Bool, true, false, not, cond}
 use mathlib.Core.List.{List, [], _∷_}
-use Prim.Native.Nat.{ℕ, suc, _<_}
+use Prim.Native.Nat.{ℕ, _<_}
 use lib.ListN.{length, getD}
 use Rattle.fields.specs.Range.{range, within}
 use Rattle.fields.specs.Refusal.{plain, codeOf}
@@ -66,14 +66,10 @@ abbrev pub outside : List Figure → List Condition
 outside [] = []
 outside (f ∷ fs) = (OutOfRange (f .field) when not (within (range (f .field)) (f .value))) ∷ outside fs
 
--- the figures alone; and figures of the fields k, k + 1, ..
+-- the figures alone
 abbrev pub values : List Figure → List ℕ
 values [] = []
 values (f ∷ fs) = f .value ∷ values fs
-
-abbrev pub numbered : ℕ → List ℕ → List Figure
-numbered k [] = []
-numbered k (x ∷ xs) = (k is x) ∷ numbered (suc k) xs
 
 -- The code of each case of an answer: 0 where it was accepted, or the refusal's number and field; and so for an order.
 abbrev pub answerCode : Answer → Code

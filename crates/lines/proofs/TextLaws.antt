@@ -1,32 +1,16 @@
 -- The laws of lines and of texts.
 -- Assumes nothing.
 use mathlib.Core.Path.{_≡_, refl, sym, ap, _∙_}
-use mathlib.Core.List.{List, [], _∷_, _++_, map, append-assoc, append-nil}
+use mathlib.Core.List.{List, [], _∷_, _++_, append-assoc, append-nil}
 use Prim.Native.Nat.{ℕ, suc, _+_, _≤_, _<_}
 use native.Mathlib.Numerals.{add-one}
 use native.Mathlib.Omega.{arith}
 use lib.ListN.{length, getD, take, drop, length-take, drop-of-length-le}
 use lib.Seq.{drop-cons, getD-take}
 use Rattle.reports.specs.declared.report.CourseLine.{CourseLine}
-use Rattle.words.specs.Decimal.{decimal, figureWords}
-use Rattle.lines.specs.Text.{Line, more, line, text, courseLine, courseLines}
+use Rattle.lines.specs.Text.{Line, line, text, courseLine, courseLines}
 use Rattle.words.specs.Stored.{Stored}
 use Rattle.words.proofs.StoreLaws.{then}
-
-figures-more : (ns : List ℕ) (ws : Line) → figureWords ns ++ more ws ≡ more (map decimal ns ++ ws)
-figures-more [] ws = refl
-figures-more (n ∷ ns) ws =
-    ap (λ (l : List ℕ). 0x20 ∷ l) (append-assoc (decimal n) (figureWords ns) (more ws) ∙ ap (λ (l : List ℕ). decimal n ++ l) (figures-more ns ws))
-
--- numbers in a line, and then the rest of it
-pub figures-then : {buf b b′ : List ℕ} {at i j : ℕ} (ns : List ℕ) (ws : Line) → Stored buf at (figureWords ns) b i → Stored b i (more ws) b′ j
-    → Stored buf at (more (map decimal ns ++ ws)) b′ j
-figures-then ns ws f g = rw (← figures-more ns ws) (then f g)
-
--- and then the line end
-pub figures-end : {buf b b′ : List ℕ} {at i j : ℕ} (ns : List ℕ) → Stored buf at (figureWords ns) b i → Stored b i (more []) b′ j
-    → Stored buf at (more (map decimal ns)) b′ j
-figures-end ns f g = rw (append-nil (map decimal ns)) at (figures-then ns [] f g)
 
 pub text-append : (ls ms : List Line) → text (ls ++ ms) ≡ text ls ++ text ms
 text-append [] ms = refl

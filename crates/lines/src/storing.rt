@@ -1,13 +1,13 @@
 // The lines of a report or a refusal (document 01, "The example tank"). Each function stores its part at a
 // place of the buffer, and gives the place after it; the bounds are those of numbers of twenty digits.
-ghost use mathlib.Core.List.{[], _∷_};
+ghost use mathlib.Core.List.{[], _∷_, map};
 ghost use Prim.Native.Nat.{_+_, _≤_};
 ghost use lib.ListN.{length, take};
 ghost use Rattle.fields.specs.Refusal.{codeOf};
 ghost use Rattle.stability.specs.Earthquake.{upliftWord};
 ghost use Rattle.rules.specs.Verdict.{verdictWord};
 ghost use Rattle.lines.specs.Text.{line, more, text, courseLine, courseLines, windLine, pullLine, anchorLine, selfLine, standingLines, tankLine, reportLines, codeFigures, refusalLine, textOf, mostText};
-ghost use Rattle.words.specs.Decimal.{figureWords};
+ghost use Rattle.words.specs.Decimal.{decimal};
 ghost use Rattle.words.specs.Stored.{Stored};
 use entries::Answer;
 use fields::Code;
@@ -22,7 +22,7 @@ use reports::report::Word;
 use rules::verdict::Verdict;
 use stability::earthquake::Uplift;
 use words::put;
-use words::put_figures;
+use words::put_figure;
 use words::put_signed;
 
 // With a blank in front.
@@ -43,8 +43,10 @@ fn put_course(out: &mut [u8], at: usize, number: u64, c: CourseLine) -> usize
     ensures { λ r. ⌜ Stored (now (out .entry)) at (line (courseLine number c)) (now (out .exit)) r ⌝ }
 {
     let next = put(out, at, b"course");
-    let figures = [number, c.need, c.required, c.plate as u64];
-    let next = put_figures(out, next, &figures);
+    let next = put_figure(out, next, number);
+    let next = put_figure(out, next, c.need);
+    let next = put_figure(out, next, c.required);
+    let next = put_figure(out, next, c.plate as u64);
     let verdict = c.verdict;
     let next = put_verdict(out, next, verdict);
     put(out, next, b"\n")
@@ -75,8 +77,8 @@ fn put_wind(out: &mut [u8], at: usize, pressure: u64, moment: u64) -> usize
     ensures { λ r. ⌜ Stored (now (out .entry)) at (line (windLine pressure moment)) (now (out .exit)) r ⌝ }
 {
     let next = put(out, at, b"wind");
-    let figures = [pressure, moment];
-    let next = put_figures(out, next, &figures);
+    let next = put_figure(out, next, pressure);
+    let next = put_figure(out, next, moment);
     put(out, next, b"\n")
 }
 
@@ -102,8 +104,7 @@ fn put_self(out: &mut [u8], at: usize, c: SelfChecks) -> usize
     let wind = c.wind;
     let next = put_verdict(out, next, wind);
     let next = put(out, next, b" resist");
-    let figures = [c.resistance];
-    let next = put_figures(out, next, &figures);
+    let next = put_figure(out, next, c.resistance);
     let uplift = c.uplift;
     put_uplift(out, next, uplift)
 }
@@ -178,18 +179,18 @@ fn put_report(out: &mut [u8], r: Report) -> usize
     put_tank(out, next, word)
 }
 
-// The number, and for 16 the field, each with a blank in front.
+// The number, and for 16 the field, each with a blank in front, and the line end.
 fn put_code(out: &mut [u8], at: usize, p: Code) -> usize
-    requires { ⌜ at + 42 ≤ length (now out) ⌝ }
-    ensures { λ r. ⌜ r ≤ at + 42 ⌝ }
-    ensures { λ r. ⌜ Stored (now (out .entry)) at (figureWords (codeFigures p)) (now (out .exit)) r ⌝ }
+    requires { ⌜ at + 43 ≤ length (now out) ⌝ }
+    ensures { λ r. ⌜ r ≤ at + 43 ⌝ }
+    ensures { λ r. ⌜ Stored (now (out .entry)) at (more (map decimal (codeFigures p))) (now (out .exit)) r ⌝ }
 {
+    let next = put_figure(out, at, p.number as u64);
     if p.number == 16 {
-        let figures = [p.number as u64, p.field as u64];
-        return put_figures(out, at, &figures);
+        let next = put_figure(out, next, p.field as u64);
+        return put(out, next, b"\n");
     }
-    let figures = [p.number as u64];
-    put_figures(out, at, &figures)
+    put(out, next, b"\n")
 }
 
 fn put_refusal(out: &mut [u8], refusal: Refusal) -> usize
@@ -199,8 +200,7 @@ fn put_refusal(out: &mut [u8], refusal: Refusal) -> usize
 {
     let code = refusal.code();
     let next = put(out, 0, b"refused");
-    let next = put_code(out, next, code);
-    put(out, next, b"\n")
+    put_code(out, next, code)
 }
 
 // The whole text, at the start of the buffer.

@@ -1,5 +1,6 @@
 -- The laws that callers' proofs cite.
 pub mod StepLaws
+pub mod ReadLaws
 pub mod ReachLaws
 pub mod RebuildLaws
 pub mod CompleteLaws

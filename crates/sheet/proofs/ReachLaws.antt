@@ -1,7 +1,7 @@
 -- What the test `reachable` says of a sheet, and that every step keeps it (`step-reachable`, `run-reachable`). That it passes exactly the
 -- sheets that some run of steps leaves is in RebuildLaws.
 -- Assumes nothing.
-use mathlib.Core.Path.{_≡_, refl, sym, ap, _∙_, subst}
+use mathlib.Core.Path.{_≡_, refl, sym, _∙_, subst}
 use mathlib.Core.Bool.{Bool, true, false, not, _&&_}
 use mathlib.Core.List.{List, [], _∷_, _++_}
 use Prim.Native.Nat.{ℕ, suc, _+_, _-_, _≤_, _<_}
@@ -203,16 +203,6 @@ held-next s c h e =
     let o = first-cons (NoTank when tankBlank (s .tank)) ((CoursesFull when leb 12 (s .count)) ∷ (courseFlaws c ++ high ∷ [])) e in
     let f = leb-false 12 (s .count) (first-cons (CoursesFull when leb 12 (s .count)) (courseFlaws c ++ high ∷ []) (o .1) .0) in
     rw (add-one (s .count)) (take-suc-set (s .courses) (s .count) c (omega (arith, f, reach-slots s h .twelve)))
-
--- a course that is accepted adds its width
-pub added-height : (s : Sheet) (c : Course) (y : Reply) → y ≡ applied s (addCourse c) → T (reachable s) → y .answer ≡ Accepted
-    → heightOf (held (y .sheet)) ≡ heightOf (held s) + c .width
-added-height s c y e h a =
-    let t = applied-accepted s (addCourse c) (ap (λ (z : Reply). z .answer) (sym e) ∙ a) in
-    ap (λ (z : Reply). heightOf (held (z .sheet))) e
-    ∙ ap (λ (z : Sheet). heightOf (held z)) (t .1)
-    ∙ ap heightOf (held-next s c h (t .0))
-    ∙ omega (arith, height-append (held s) (c ∷ []))
 
 pub reply-reachable : (s : Sheet) (x : Step) (y : Reply) → y ≡ applied s x → T (reachable s) → T (reachable (y .sheet))
 reply-reachable s x y e h = subst (λ (z : Reply). T (reachable (z .sheet))) (sym e) (step-reachable s h x)

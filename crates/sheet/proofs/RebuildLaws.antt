@@ -30,7 +30,7 @@ use Rattle.entries.specs.declared.answer.Answer.the-variants.{Accepted, Refused
 use Rattle.lists.specs.Pad.{padded}
 use Rattle.lists.proofs.BoolLaws.{three-yes}
 use Rattle.lists.proofs.PadLaws.{padded-next}
-use Rattle.entries.proofs.OrderLaws.{clash, clear-accepted}
+use Rattle.entries.proofs.OrderLaws.{first-then, clash, clear-accepted}
 use Rattle.entries.proofs.CourseLaws.{height-append}
 use Rattle.sheet.proofs.StepLaws.{tank-applied, site-applied, anchors-applied, course-applied}
 use Rattle.sheet.proofs.ReachLaws.{anchors-blank, Slots, Held, reach-halves, reach-slots, parts-held, empty-reachable, run-reachable}
@@ -98,7 +98,7 @@ module _ (t : Tank) (x : SiteEntry.SiteEntry) (a : Anchors) where
   course-added h c l k m =
       let n : length h + 1 ≡ length (h ++ c ∷ []) = omega (arith, length-append h (c ∷ [])) in
       course-applied (with h) t refl c l
-      ∙ rw (clear-accepted (courseFlaws c) k, take-append-seam h (replicate (12 - length h) blankCourse), le-ltb _ _ m)
+      ∙ rw (first-then (courseFlaws c), clear-accepted (courseFlaws c) k, take-append-seam h (replicate (12 - length h) blankCourse), le-ltb _ _ m)
       (ap (λ (l : List Course). accepted (record { tank = TankEntry.the-variants.Filled t; site = x; anchors = a; courses = l; count = length h + 1 })) (padded-next blankCourse h c (length h) refl l)
       ∙ ap (λ (n : ℕ). accepted (record { tank = TankEntry.the-variants.Filled t; site = x; anchors = a; courses = padded blankCourse (h ++ c ∷ []); count = n })) n)
 

@@ -1,6 +1,6 @@
 -- The laws of the steps: what each comes to, by what the sheet holds.
 -- Assumes nothing.
-use mathlib.Core.Path.{_≡_, refl, sym, ap, _∙_}
+use mathlib.Core.Path.{_≡_, refl, ap, _∙_}
 use mathlib.Core.Bool.{true, false, not, cond}
 use mathlib.Core.List.{List, [], _∷_, _++_}
 use Prim.Native.Nat.{_+_, _≤_, _<_}
@@ -8,9 +8,9 @@ use lib.Dec.{leb}
 use borrow.Author.Tests.{le-leb, lt-leb}
 use Rattle.fields.specs.declared.refusal.Refusal.{Refusal}
 use Rattle.fields.specs.declared.refusal.Refusal.the-variants.{Unreachable, TankStated, NoTank, CoursesFull}
-use Rattle.entries.specs.Order.{Condition, _when_, firstOf, orElse}
+use Rattle.entries.specs.Order.{Condition, _when_, firstOf}
 use Rattle.entries.specs.Sheet.{tooHigh, emptySheet, held, heightOf, tankFlaws, siteFlaws, anchorFlaws, courseFlaws, tankOf}
-use Rattle.sheet.specs.Steps.{Step, stateTank, stateSite, stateAnchors, addCourse, tankBlank, orderOf, filled, refused, replied, applied, stated, reachable, unless, inTurn}
+use Rattle.sheet.specs.Steps.{Step, stateTank, stateSite, stateAnchors, addCourse, tankBlank, orderOf, filled, kept, refused, replied, applied, stated, reachable, unless, inTurn}
 use Rattle.entries.specs.declared.sheet.Tank.{Tank}
 use Rattle.entries.specs.declared.sheet.Site.{Site}
 use Rattle.entries.specs.declared.sheet.Anchors.{Anchors}
@@ -21,7 +21,6 @@ use Rattle.entries.specs.declared.sheet.Sheet.{Sheet}
 use Rattle.sheet.specs.declared.steps.Reply.{Reply}
 use Rattle.entries.specs.declared.answer.Answer.{Answer}
 use Rattle.entries.specs.declared.answer.Answer.the-variants.{Accepted, Refused}
-use Rattle.entries.proofs.OrderLaws.{first-then}
 
 module _ (s : Sheet) where
   -- the answer of an order that looks at the tank held
@@ -75,8 +74,8 @@ module _ (s : Sheet) where
 
     pub course-applied : (c : Course) → s .count < 12
         → applied s (addCourse c)
-        ≡ replied (orElse (firstOf (courseFlaws c)) (tooHigh (heightOf (held s)) c)) s (filled s (addCourse c))
-    course-applied c h = course-order c ∙ rw (lt-leb _ _ h, first-then (courseFlaws c))
+        ≡ replied (firstOf (courseFlaws c ++ tooHigh (heightOf (held s)) c ∷ [])) s (filled s (addCourse c))
+    course-applied c h = course-order c ∙ rw (lt-leb _ _ h)
 
   -- a sheet that is handed in: 30 first
   pub stated-unreachable : (x : Step) → reachable s ≡ false → stated s x ≡ refused Unreachable s
@@ -87,13 +86,13 @@ module _ (s : Sheet) where
   unfolding stated applied
   stated-applied x e = rw e
 
--- steps in turn, after the first of them was given the reply y
-module _ (s : Sheet) (x : Step) (xs : List Step) (y : Reply) (e : y ≡ applied s x) where
-  first-turn : unless (y .answer) (inTurn (y .sheet) xs) ≡ inTurn s (x ∷ xs)
-  first-turn = ap (λ (z : Reply). unless (z .answer) (inTurn (z .sheet) xs)) e
+-- steps in turn, after the first of them was given the answer a
+module _ (s : Sheet) (x : Step) (xs : List Step) {a : Answer} (e : applied s x ≡ replied a s (filled s x)) where
+  turn : inTurn s (x ∷ xs) ≡ unless a (inTurn (kept a s (filled s x)) xs)
+  turn = ap (λ (y : Reply). unless (y .answer) (inTurn (y .sheet) xs)) e
 
-  pub turn-refused : (r : Refusal) {z : Reply} → y .answer ≡ Refused r → z ≡ refused r emptySheet → z ≡ inTurn s (x ∷ xs)
-  turn-refused r a f = f ∙ sym (ap (λ (a : Answer). unless a (inTurn (y .sheet) xs)) a) ∙ first-turn
+  pub turn-refused : {r : Refusal} → a ≡ Refused r → inTurn s (x ∷ xs) ≡ refused r emptySheet
+  turn-refused h = turn ∙ rw h
 
-  pub turn-accepted : {z : Reply} → y .answer ≡ Accepted → z ≡ inTurn (y .sheet) xs → z ≡ inTurn s (x ∷ xs)
-  turn-accepted a f = f ∙ sym (ap (λ (a : Answer). unless a (inTurn (y .sheet) xs)) a) ∙ first-turn
+  pub turn-accepted : a ≡ Accepted → inTurn s (x ∷ xs) ≡ inTurn (filled s x) xs
+  turn-accepted h = turn ∙ rw h

@@ -11,13 +11,16 @@ use Rattle.fields.specs.Refusal.{plain}
 use Rattle.fields.specs.declared.refusal.Code.{Code}
 use Rattle.entries.specs.Order.{firstOf, firstCode, answerCode}
 use Rattle.entries.specs.Sheet.{emptySheet, held, heightOf}
+use Rattle.entries.specs.declared.sheet.Tank.{Tank}
+use Rattle.entries.specs.declared.sheet.Site.{Site}
+use Rattle.entries.specs.declared.sheet.Anchors.{Anchors}
 use Rattle.entries.specs.declared.sheet.Sheet.{Sheet}
 use Rattle.entries.specs.declared.answer.Answer.{Answer}
 use Rattle.entries.specs.declared.answer.Answer.the-variants.{Accepted, Refused}
 use Rattle.layout.specs.Numbers.{twoIn}
 use Rattle.layout.specs.Layout.{Version, version1}
 use Rattle.layout.specs.Header.{tankIn, siteIn, anchorsIn, coursesIn, tailIn, countOf, readOrder}
-use Rattle.sheet.specs.Steps.{Step, stateTank, stateSite, stateAnchors, addCourse, orderOf, applied, accepted, unless, inTurn}
+use Rattle.sheet.specs.Steps.{Step, stateTank, stateSite, stateAnchors, addCourse, orderOf, filled, applied, accepted, unless, inTurn}
 use Rattle.sheet.specs.Complete.{completeOrder, entriesOf, noEntries, completedOf, CompletedCode, codeWith}
 use Rattle.sheet.specs.Writing.{WriteReply, written, writeCode}
 use Rattle.sheet.specs.declared.complete.Completeness as Status
@@ -45,6 +48,10 @@ readIn b = unless (firstOf (readOrder version1 b)) (inTurn emptySheet (stepsIn v
 -- with the height of the courses, which reading keeps for 34
 abbrev pub withHeight : Reply → Reading
 withHeight y = record { answer = y .answer; sheet = y .sheet; height = heightOf (held (y .sheet)) }
+
+-- a sheet with tank, site and anchors, before its courses (where `read_courses` begins)
+abbrev pub beforeCourses : Tank → Site → Anchors → Sheet
+beforeCourses t x a = filled (filled (filled emptySheet (stateTank t)) (stateSite x)) (stateAnchors a)
 
 -- The code of the answer is that of the bytes' own order, or that of the first step that is refused.
 abbrev pub unlessCode : Code → Code → Code

@@ -1,21 +1,27 @@
-// A sheet out of bytes (document 01, "Filling in" and "Order"). The steps are those of `steps`, without
-// their test for 30: the sheet is made here, by steps alone. So the time is linear in the bytes.
+// A sheet out of bytes (document 01, "Filling in" and "Order"). What each step would be refused for is tested as it
+// comes, and the sheet is made once, at the end: a sheet after each step would be copied each time. 30 is not tested,
+// since steps leave this sheet.
 ghost use mathlib.Core.Path.{_≡_};
 ghost use Prim.Native.Nat.{_≤_};
-ghost use lib.Dec.{T};
 ghost use lib.ListN.{length};
 ghost use Rattle.entries.specs.Order.{answerCode};
 ghost use Rattle.entries.specs.Sheet.{emptySheet};
 ghost use Rattle.layout.specs.Layout.{version1, tailLength};
 ghost use Rattle.layout.specs.Header.{Header};
-ghost use Rattle.sheet.specs.Steps.{reachable, refused, inTurn};
-ghost use Rattle.sheet.specs.Reading.{fromCourses, fromAnchors, fromSite, stepsIn, readIn, withHeight, readCode, WritesBack};
+ghost use Rattle.sheet.specs.Steps.{refused, inTurn};
+ghost use Rattle.sheet.specs.Reading.{fromCourses, beforeCourses, stepsIn, readIn, withHeight, readCode, WritesBack};
 use crate::steps;
 use crate::steps::Reply;
+use entries::Anchors;
 use entries::Answer;
+use entries::Course;
 use entries::Sheet;
+use entries::Site;
+use entries::SiteEntry;
+use entries::Tank;
+use entries::TankEntry;
+use entries::flaws;
 use fields::Refusal;
-use parts::slots;
 
 // The answer to reading, the sheet, and the height of its courses.
 pub struct Reading {
@@ -46,7 +52,7 @@ pub fn read_with_height(bytes: &[u8]) -> Reading
     if let Answer::Refused(refusal) = flaw {
         return without(refusal);
     }
-    read_tank(bytes)
+    read_entries(bytes)
 }
 
 // No sheet, for this reason.
@@ -61,74 +67,56 @@ fn without(refusal: Refusal) -> Reading
     }
 }
 
-// The steps that the bytes hold, in turn: from the tank on; and of a tail with n courses from the site on, from
-// the anchors on, from the courses on.
-fn read_tank(bytes: &[u8]) -> Reading
+// The steps that the bytes hold, in turn: tank, site and anchors, and then the courses.
+fn read_entries(bytes: &[u8]) -> Reading
     requires { ⌜ Header (now bytes) ⌝ }
     ensures { λ r. ⌜ r ≡ withHeight (inTurn emptySheet (stepsIn version1 (now (bytes .entry)))) ⌝ }
 {
-    let empty = Sheet::empty();
     let tank = layout::reading::tank_at(bytes, 3);
-    let reply = steps::apply_tank(empty, tank);
-    let answer = reply.answer;
-    if let Answer::Refused(refusal) = answer {
+    let flaw = flaws::tank_flaw(tank);
+    if let Answer::Refused(refusal) = flaw {
         return without(refusal);
     }
-    let sheet = reply.sheet;
-    let n = layout::reading::count_in(bytes);
-    read_site(sheet, &bytes[27..], n)
-}
-
-fn read_site(s: Sheet, tail: &[u8], n: usize) -> Reading
-    requires { ⌜ T (reachable s) ⌝ }
-    requires { ⌜ (tailLength n ≤ length (now tail)) × (n ≤ 12) ⌝ }
-    ensures { λ r. ⌜ r ≡ withHeight (inTurn s (fromSite n (now (tail .entry)))) ⌝ }
-{
+    let tail = &bytes[27..];
     let site = layout::reading::site_at(tail, 0);
-    let reply = steps::apply_site(s, site);
-    let answer = reply.answer;
-    if let Answer::Refused(refusal) = answer {
+    let flaw = flaws::site_flaw(site);
+    if let Answer::Refused(refusal) = flaw {
         return without(refusal);
     }
-    let sheet = reply.sheet;
-    read_anchors(sheet, tail, n)
-}
-
-fn read_anchors(s: Sheet, tail: &[u8], n: usize) -> Reading
-    requires { ⌜ T (reachable s) ⌝ }
-    requires { ⌜ (tailLength n ≤ length (now tail)) × (n ≤ 12) ⌝ }
-    ensures { λ r. ⌜ r ≡ withHeight (inTurn s (fromAnchors n (now (tail .entry)))) ⌝ }
-{
     let anchors = layout::reading::anchors_at(tail, 20);
-    let reply = steps::apply_anchors(s, anchors);
-    let answer = reply.answer;
-    if let Answer::Refused(refusal) = answer {
+    let flaw = flaws::anchors_flaw(tank.diameter, anchors);
+    if let Answer::Refused(refusal) = flaw {
         return without(refusal);
     }
-    let sheet = reply.sheet;
-    read_courses(sheet, tail, n)
+    let n = layout::reading::count_in(bytes);
+    read_courses(tank, site, anchors, tail, n)
 }
 
-fn read_courses(s: Sheet, tail: &[u8], n: usize) -> Reading
-    requires { ⌜ T (reachable s) ⌝ }
+fn read_courses(tank: Tank, site: Site, anchors: Anchors, tail: &[u8], n: usize) -> Reading
     requires { ⌜ (tailLength n ≤ length (now tail)) × (n ≤ 12) ⌝ }
-    ensures { λ r. ⌜ r ≡ withHeight (inTurn s (fromCourses n (now (tail .entry)))) ⌝ }
+    ensures { λ r. ⌜ r ≡ withHeight (inTurn (beforeCourses tank site anchors) (fromCourses n (now (tail .entry)))) ⌝ }
 {
-    let mut sheet = s;
-    let courses = s.courses;
-    let mut height = slots::height(courses, s.count);
+    let blank = Course::blank();
+    let mut courses = [blank; 12];
+    let mut height: u64 = 0;
     let mut i: usize = 0;
     while i < n {
         let c = layout::reading::course_at(tail, 33 + 20 * i);
-        let reply = steps::apply_course(sheet, height, c);
-        let answer = reply.answer;
-        if let Answer::Refused(refusal) = answer {
+        let flaw = steps::added_flaw(height, c);
+        if let Answer::Refused(refusal) = flaw {
             return without(refusal);
         }
-        sheet = reply.sheet;
+        courses[i] = c;
         height += c.width as u64;
         i += 1;
     }
+    let sheet = Sheet {
+        tank: TankEntry::Filled(tank),
+        site: SiteEntry::Filled(site),
+        anchors,
+        courses,
+        count: i,
+    };
     Reading {
         answer: Answer::Accepted,
         sheet,

@@ -1,10 +1,10 @@
 // The steps that fill a sheet in (document 01, "Filling in" and "Order"). A refused step gives back
 // the sheet that was handed in.
 ghost use mathlib.Core.Path.{_≡_};
-ghost use mathlib.Core.List.{_∷_};
+ghost use mathlib.Core.List.{[], _∷_, _++_};
 ghost use Prim.Native.Nat.{_≤_};
-ghost use Rattle.entries.specs.Order.{answerCode, firstCode};
-ghost use Rattle.entries.specs.Sheet.{held, heightOf};
+ghost use Rattle.entries.specs.Order.{firstOf, answerCode, firstCode};
+ghost use Rattle.entries.specs.Sheet.{tooHigh, held, heightOf, courseFlaws};
 ghost use Rattle.sheet.specs.Steps.{Step, orderOf, replied, refused, applied, unreachable, stated};
 use crate::reach;
 use entries::Anchors;
@@ -98,8 +98,8 @@ fn refuse(s: Sheet, refusal: Refusal) -> Reply
     }
 }
 
-// The steps without their test for 30: what reading goes through.
-pub(crate) fn apply_tank(s: Sheet, t: Tank) -> Reply
+// The steps without their test for 30.
+fn apply_tank(s: Sheet, t: Tank) -> Reply
     ensures { λ r. ⌜ r ≡ applied s (Step.stateTank t) ⌝ }
 {
     let entry = s.tank;
@@ -121,7 +121,7 @@ pub(crate) fn apply_tank(s: Sheet, t: Tank) -> Reply
     replied(flaw, s, after)
 }
 
-pub(crate) fn apply_site(s: Sheet, x: Site) -> Reply
+fn apply_site(s: Sheet, x: Site) -> Reply
     ensures { λ r. ⌜ r ≡ applied s (Step.stateSite x) ⌝ }
 {
     let tank = s.tank;
@@ -142,7 +142,7 @@ pub(crate) fn apply_site(s: Sheet, x: Site) -> Reply
     replied(flaw, s, after)
 }
 
-pub(crate) fn apply_anchors(s: Sheet, a: Anchors) -> Reply
+fn apply_anchors(s: Sheet, a: Anchors) -> Reply
     ensures { λ r. ⌜ r ≡ applied s (Step.stateAnchors a) ⌝ }
 {
     let entry = s.tank;
@@ -163,9 +163,17 @@ pub(crate) fn apply_anchors(s: Sheet, a: Anchors) -> Reply
     replied(flaw, s, after)
 }
 
-// The caller hands in the height of the courses held, so that reading need not add it up again at
-// every course.
-pub(crate) fn apply_course(s: Sheet, height: u64, c: Course) -> Reply
+// What a course is refused for on courses of this height: 16, 17, 34.
+pub(crate) fn added_flaw(height: u64, c: Course) -> Answer
+    requires { ⌜ height ≤ 76800 ⌝ }
+    ensures { λ r. ⌜ r ≡ firstOf (courseFlaws c ++ tooHigh height c ∷ []) ⌝ }
+{
+    let too_high = MOST_HEIGHT < height + c.width as u64;
+    flaws::or_else(flaws::course_flaw(c), Refusal::ShellTooHigh, too_high)
+}
+
+// The caller hands in the height of the courses held, which its test for 30 bounds.
+fn apply_course(s: Sheet, height: u64, c: Course) -> Reply
     requires { ⌜ (height ≡ heightOf (held s)) × (height ≤ 76800) ⌝ }
     ensures { λ r. ⌜ r ≡ applied s (Step.addCourse c) ⌝ }
 {
@@ -177,8 +185,7 @@ pub(crate) fn apply_course(s: Sheet, height: u64, c: Course) -> Reply
     if MOST_COURSES <= n {
         return refuse(s, Refusal::CoursesFull);
     }
-    let too_high = MOST_HEIGHT < height + c.width as u64;
-    let flaw = flaws::or_else(flaws::course_flaw(c), Refusal::ShellTooHigh, too_high);
+    let flaw = added_flaw(height, c);
     let site = s.site;
     let anchors = s.anchors;
     let mut courses = s.courses;

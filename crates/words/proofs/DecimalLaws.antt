@@ -2,15 +2,13 @@
 -- Assumes nothing.
 use mathlib.Core.Path.{_≡_, refl, sym, ap, subst, _∙_}
 use mathlib.Core.Bool.{true, false, cond}
-use mathlib.Core.List.{List, [], _∷_, _++_}
+use mathlib.Core.List.{List, [], _∷_, _++_, append-assoc}
 use Prim.Native.Nat.{ℕ, zero, suc, _+_, _*_, _-_, _/_, _%_, _^_, _≤_, _<_}
 use native.Mathlib.Nat.{lt-of-not-le, pow-suc}
-use native.Mathlib.Numerals.{add-one}
 use native.Mathlib.Decide.{decLe}
 use native.Mathlib.Omega.{arith}
 use lib.Dec.{T, ltb}
-use lib.ListN.{length, getD, drop, length-append, List·getD-append}
-use lib.Seq.{drop-cons}
+use lib.ListN.{length, getD, length-append, List·getD-append}
 use lib.IntN.{ℤ, pos, negsuc, natAbs}
 use lib.Signed.{ltZ}
 use mir.Syntax.{w64}
@@ -18,7 +16,7 @@ use mir.Val.{SFits, toZ, ofZ}
 use mir.Facts.{toZ-ofZ}
 use borrow.Author.Tests.{lt-ltb, le-ltb}
 use Rattle.exact.proofs.SignedLaws.{below-zero}
-use Rattle.words.specs.Decimal.{digit, decimalIn, decimal, signed, valueAfter, figureWords}
+use Rattle.words.specs.Decimal.{digit, twoDigits, decimalIn, decimal, signed, valueAfter}
 use Rattle.words.specs.Stored.{Stored}
 
 -- any number of turns from n on gives the same digits
@@ -41,6 +39,36 @@ decimal-next n h =
 
 pub next-long : (n : ℕ) → 10 ≤ n → length (decimal n) ≡ length (decimal (n / 10)) + 1
 next-long n h = ap length (decimal-next n h) ∙ length-append (decimal (n / 10)) (digit (n % 10) ∷ [])
+
+-- two digits at once
+pub decimal-two : (n : ℕ) → 10 ≤ n → n < 100 → decimal n ≡ twoDigits n
+decimal-two n h l = decimal-next n h ∙ ap (λ (ds : List ℕ). ds ++ (digit (n % 10) ∷ [])) (decimal-below (n / 10) (omega arith))
+
+pub decimal-hundreds : (n : ℕ) → 100 ≤ n → decimal n ≡ decimal (n / 100) ++ twoDigits (n % 100)
+decimal-hundreds n h =
+    let q : n / 10 / 10 ≡ n / 100 = omega arith in
+    let d : n / 10 % 10 ≡ n % 100 / 10 = omega arith in
+    let e : n % 10 ≡ n % 100 % 10 = omega arith in
+    rw (decimal-next n (omega arith), decimal-next (n / 10) (omega arith), q, d, e)
+    (append-assoc (decimal (n / 100)) (digit (n % 100 / 10) ∷ []) (digit (n % 100 % 10) ∷ []))
+
+pub hundreds-long : (n : ℕ) → 100 ≤ n → length (decimal n) ≡ length (decimal (n / 100)) + 2
+hundreds-long n h = ap length (decimal-hundreds n h) ∙ length-append (decimal (n / 100)) (twoDigits (n % 100))
+
+-- and four
+pub decimal-thousands : (n : ℕ) → 10000 ≤ n
+    → decimal n ≡ decimal (n / 10000) ++ (twoDigits (n % 10000 / 100) ++ twoDigits (n % 10000 % 100))
+decimal-thousands n h =
+    let q : n / 100 / 100 ≡ n / 10000 = omega arith in
+    let d : n / 100 % 100 ≡ n % 10000 / 100 = omega arith in
+    let e : n % 100 ≡ n % 10000 % 100 = omega arith in
+    rw (decimal-hundreds n (omega arith), decimal-hundreds (n / 100) (omega arith), q, d, e)
+    (append-assoc (decimal (n / 10000)) (twoDigits (n % 10000 / 100)) (twoDigits (n % 10000 % 100)))
+
+pub thousands-long : (n : ℕ) → 10000 ≤ n → length (decimal n) ≡ length (decimal (n / 10000)) + 4
+thousands-long n h =
+    ap length (decimal-thousands n h)
+    ∙ length-append (decimal (n / 10000)) (twoDigits (n % 10000 / 100) ++ twoDigits (n % 10000 % 100))
 
 -- ---- the value of the digits is the number, and the first is 0 in 0 alone
 
@@ -96,10 +124,6 @@ most (suc k) n h = longer n (suc k) (decLe 10 n) (most k (n / 10) (omega (arith,
 -- twenty digits hold every u64
 pub decimal-most : (n : ℕ) → n < 2 ^ 64 → length (decimal n) ≤ 20
 decimal-most n h = most 19 n (omega arith)
-
-pub figures-next : (xs : List ℕ) (i : ℕ) → i < length xs
-    → figureWords (drop i xs) ≡ (0x20 ∷ decimal (getD xs i 0)) ++ figureWords (drop (i + 1) xs)
-figures-next xs i h = rw (add-one i, drop-cons xs i 0 h)
 
 -- by the machine's test and its size
 pub signed-below : (z : ℤ) → SFits w64 z → ltZ (toZ w64 (ofZ w64 z)) (pos 0) ≡ true

@@ -23,6 +23,11 @@ then {p = p} {q = q} f g =
 pub byte : {buf : List ℕ} {at b : ℕ} → Stored buf at (b ∷ []) (set buf at b) (at + 1)
 byte = record { stored = refl; after = refl }
 
+pub two-bytes : {buf : List ℕ} {at a b : ℕ} → Stored buf at (a ∷ b ∷ []) (set (set buf at a) (at + 1) b) (at + 2)
+two-bytes {buf} {at} {a} {b} =
+    let both : Stored buf at (a ∷ b ∷ []) (set (set buf at a) (at + 1) b) (at + 1 + 1) = then byte byte in
+    record { stored = both .stored; after = refl }
+
 -- What a loop keeps: `rest` stored where it stands now gives what is to be stored in all.
 pub record Left (buf : List ℕ) (at : ℕ) (all buf′ : List ℕ) (next : ℕ) (rest : List ℕ) : Type 0 where
   pub long : length buf′ ≡ length buf

@@ -10,6 +10,10 @@ use Rattle.lists.specs.Ascii.{ascii}
 abbrev pub digit : ℕ → ℕ
 digit d = 0x30 + d
 
+-- those of a number below 100
+abbrev pub twoDigits : ℕ → List ℕ
+twoDigits n = digit (n / 10) ∷ digit (n % 10) ∷ []
+
 -- All digits but the last, then the last one. The number n has at most n + 1 digits, so n turns are enough (`decimal-below`,
 -- `decimal-next`).
 abbrev pub decimalIn : ℕ → ℕ → List ℕ
@@ -27,8 +31,3 @@ valueAfter n (d ∷ ds) = valueAfter (10 * n + (d - digit 0)) ds
 abbrev pub signed : ℤ → List ℕ
 signed (pos n) = decimal n
 signed (negsuc n) = ascii "-" ++ decimal (suc n)
-
--- numbers in a line, each with a blank in front
-abbrev pub figureWords : List ℕ → List ℕ
-figureWords [] = []
-figureWords (n ∷ ns) = ascii " " ++ decimal n ++ figureWords ns

@@ -3,5 +3,5 @@ mod store;
 
 pub use store::put;
 pub use store::put_decimal;
-pub use store::put_figures;
+pub use store::put_figure;
 pub use store::put_signed;

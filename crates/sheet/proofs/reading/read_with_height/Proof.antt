@@ -29,15 +29,15 @@ returns c = let h = c .before .before .before .before in
 enum-told : tie.Need-enum-told
 enum-told c = search needs
 
-read-tank-requires : tie.Need-read-tank-requires
-read-tank-requires c κs = let h = c .before .before in
+read-entries-requires : tie.Need-read-entries-requires
+read-entries-requires c κs = let h = c .before .before in
     header (h .before .before .args .bytes .now) (sym (h .header-flaw .ensures .0) ∙ c .enum-told .given .1)
 
 returns-2 : tie.Need-returns-2
 unfolding readIn
 returns-2 c = let h = c .before .before .before in
     let b = h .before .before .args .bytes .now in
-    height-clauses b (c .read-tank .ensures
+    height-clauses b (c .read-entries .ensures
     ∙ ap (λ a. withHeight (unless a (inTurn emptySheet (stepsIn version1 b)))) (sym (c .before .enum-told .given .1) ∙ h .header-flaw .ensures .0))
 
 pub read-with-height-spec : {M : Type 1} → statement M
@@ -49,5 +49,5 @@ read-with-height-spec =
     without-requires
     returns
     enum-told
-    read-tank-requires
+    read-entries-requires
     returns-2)

@@ -1,8 +1,9 @@
 -- `sheet::steps::apply_course` meets its contract. Assumes nothing.
 use mathlib.Core.Path.{_∙_, sym, ap}
+use mathlib.Core.List.{[], _∷_, _++_}
 use borrow.Author.Needs.{needs}
 use Rattle.entries.specs.Sheet.{tooHigh, courseFlaws}
-use Rattle.entries.specs.Order.{firstOf, orElse}
+use Rattle.entries.specs.Order.{firstOf}
 use Rattle.sheet.specs.Steps.{addCourse, filled, replied}
 use Rattle.sheet.proofs.StepLaws.{course-applied, course-early, course-full}
 use Rattle.sheet.proofs.steps.apply_course.Statement.{statement}
@@ -29,17 +30,8 @@ returns-2 c = let s = c .before .before .before .before .args in
     let t = c .before .before .enum-told .given in
     c .refuse2 .ensures ∙ sym (course-full (s .s) (t .0 .0) (t .1) (s .c) (c .before .if1 .taken))
 
-cast-too-high : tie.Need-cast-too-high
-cast-too-high c = search needs
-
-add-too-high : tie.Need-add-too-high
-add-too-high c = search needs
-
-course-flaw-requires : tie.Need-course-flaw-requires
-course-flaw-requires c κs = search needs
-
-or-else-requires : tie.Need-or-else-requires
-or-else-requires c κs = search needs
+added-flaw-requires : tie.Need-added-flaw-requires
+added-flaw-requires c κs = search needs
 
 mul-courses : tie.Need-mul-courses
 mul-courses c = search needs
@@ -47,23 +39,21 @@ mul-courses c = search needs
 array-set-from-courses : tie.Need-array-set-from-courses
 array-set-from-courses c = search needs
 
-add-t19 : tie.Need-add-t19
-add-t19 c = search needs
+add-t14 : tie.Need-add-t14
+add-t14 c = search needs
 
 replied-requires : tie.Need-replied-requires
 replied-requires c κs = search needs
 
 returns-3 : tie.Need-returns-3
-returns-3 c = let f = c .before .before .before .before in
-    let s = f .before .before .before .before .before in
-    let t = f .before .before .before .enum-told .given in
+returns-3 c =
+    let s = c .before .before .before .before .before .before .before in
+    let t = c .before .before .before .before .before .enum-told .given in
     let x = s .args .c in
     c .replied .ensures
     ∙ ap (λ a. replied a (s .args .s) (filled (s .args .s) (addCourse x)))
-    (c .before .before .before .or-else .ensures
-    ∙ ap (λ a. orElse a (tooHigh (s .args .height) x)) (f .course-flaw .ensures .0)
-    ∙ ap (λ h. orElse (firstOf (courseFlaws x)) (tooHigh h x)) (s .pre .0))
-    ∙ sym (course-applied (s .args .s) (t .0 .0) (t .1) x (f .before .before .if1 .left))
+    (c .before .before .before .added-flaw .ensures ∙ ap (λ h. firstOf (courseFlaws x ++ tooHigh h x ∷ [])) (s .pre .0))
+    ∙ sym (course-applied (s .args .s) (t .0 .0) (t .1) x (c .before .before .before .before .if1 .left))
 
 pub apply-course-spec : {M : Type 1} → statement M
 apply-course-spec =
@@ -75,12 +65,9 @@ apply-course-spec =
     returns
     refuse-requires-2
     returns-2
-    cast-too-high
-    add-too-high
-    course-flaw-requires
-    or-else-requires
+    added-flaw-requires
     mul-courses
     array-set-from-courses
-    add-t19
+    add-t14
     replied-requires
     returns-3)
