@@ -64,14 +64,15 @@ module _ (t : Tank) (x : Site) (a : Anchors) (xs : List Step) where
       pub entries-accepted : firstOf (anchorFlaws (t .diameter) a) ≡ Accepted → inTurn emptySheet all ≡ inTurn (beforeCourses t x a) xs
       entries-accepted l = site-done ∙ turn-accepted s₂ (stateAnchors a) xs (anchors-applied s₂ t refl a) l
 
--- the courses of a tail, from the one at place i on, with the courses before it in their slots
+-- the courses of a tail, from the one at place i on
+abbrev pub from : List ℕ → ℕ → ℕ → List Step
+from tail n i = map addCourse (coursesIn (n - i) (drop (33 + 20 * i) tail))
+
+-- and added to a sheet that has those before it in its slots
 module _ (t : Tank) (x : Site) (a : Anchors) where
   abbrev pub with : List Course → ℕ → Sheet
   with cs i =
       record { tank = TankEntry.the-variants.Filled t; site = SiteEntry.the-variants.Filled x; anchors = a; courses = cs; count = i }
-
-  abbrev pub from : List ℕ → ℕ → ℕ → List Step
-  from tail n i = map addCourse (coursesIn (n - i) (drop (33 + 20 * i) tail))
 
   module _ (tail : List ℕ) (n i : ℕ) (cs : List Course) {c : Course} {h : ℕ} {flaw : Answer} (l : i < n) (m : n ≤ 12)
       (k : c ≡ courseIn (drop (33 + 20 * i) tail)) (v : h ≡ heightOf (take i cs)) (f : flaw ≡ firstOf (courseFlaws c ++ tooHigh h c ∷ [])) where

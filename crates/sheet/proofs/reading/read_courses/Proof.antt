@@ -21,7 +21,7 @@ use Rattle.sheet.proofs.reading.read_courses.Tie as tie
 abbrev Inv-loop : tie.InvT-loop
 Inv-loop tank site anchors tail n courses₀ height₀ i₀ courses height i =
     (i ≤ n) × (length courses ≡ 12) × (height ≡ heightOf (take i courses)) × (height ≤ 76800)
-    × (inTurn (beforeCourses tank site anchors) (fromCourses n tail) ≡ inTurn (with tank site anchors courses i) (from tank site anchors tail n i))
+    × (inTurn (beforeCourses tank site anchors) (fromCourses n tail) ≡ inTurn (with tank site anchors courses i) (from tail n i))
 
 abbrev μ-loop : tie.MeasureT-loop
 μ-loop tank site anchors tail n courses₀ height₀ i₀ courses height i = n - i
