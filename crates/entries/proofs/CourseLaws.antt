@@ -1,6 +1,6 @@
 -- The laws of the height of a list of courses.
 -- Assumes nothing.
-use mathlib.Core.Path.{_≡_, ap}
+use mathlib.Core.Path.{_≡_, ap, _∙_}
 use mathlib.Core.List.{List, [], _∷_, _++_}
 use Prim.Native.Nat.{ℕ, _+_, _≤_, _<_}
 use native.Mathlib.Numerals.{add-one}
@@ -20,8 +20,12 @@ height-next cs i h =
     rw (add-one i, take-suc cs i blankCourse h)
     (omega (arith, height-append (take i cs) (getD cs i blankCourse ∷ [])))
 
+-- and in the slot after those held
+pub take-set : (cs : List Course) (i : ℕ) (c : Course) → i < length cs → take (i + 1) (set cs i c) ≡ take i cs ++ (c ∷ [])
+take-set cs i c h = rw (add-one i) (take-suc-set cs i c h)
+
 pub height-set : (cs : List Course) (i : ℕ) (c : Course) → i < length cs → heightOf (take (i + 1) (set cs i c)) ≡ heightOf (take i cs) + c .width
-height-set cs i c h = rw (add-one i, take-suc-set cs i c h) (omega (arith, height-append (take i cs) (c ∷ [])))
+height-set cs i c h = ap heightOf (take-set cs i c h) ∙ omega (arith, height-append (take i cs) (c ∷ []))
 
 -- a count past the courses
 pub all-high : (cs : List Course) (n : ℕ) → length cs ≤ n → heightOf (take n cs) ≡ heightOf cs

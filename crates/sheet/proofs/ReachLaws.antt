@@ -4,12 +4,12 @@
 use mathlib.Core.Path.{_≡_, refl, sym, _∙_, subst}
 use mathlib.Core.Bool.{Bool, true, false, not, _&&_}
 use mathlib.Core.List.{List, [], _∷_, _++_}
-use Prim.Native.Nat.{ℕ, suc, _+_, _-_, _≤_, _<_}
+use Prim.Native.Nat.{ℕ, suc, _+_, _≤_, _<_}
 use native.Mathlib.Numerals.{add-one}
 use native.Mathlib.Omega.{arith}
 use lib.Dec.{T, leb, eqb}
 use lib.ListN.{length, getD, take, drop, set, length-set}
-use lib.Seq.{take-suc-set, drop-set-lt, drop-cons}
+use lib.Seq.{drop-set-lt, drop-cons}
 use mir.Facts.{and-yes, yes-and, leb-yes, yes-leb, eqb-yes, yes-eqb}
 use borrow.Author.Tests.{leb-false, ltb-false}
 use Rattle.fields.specs.Range.{between, within}
@@ -31,7 +31,7 @@ use Rattle.entries.specs.declared.answer.Answer.the-variants.{Accepted, Refused
 use Rattle.lists.proofs.BoolLaws.{three-yes, yes-three}
 use Rattle.entries.proofs.OrderLaws.{clash, accepted-clear, first-cons, first-append}
 use Rattle.lists.proofs.EachLaws.{append-each}
-use Rattle.entries.proofs.CourseLaws.{height-append}
+use Rattle.entries.proofs.CourseLaws.{take-set, height-append}
 
 -- ---- what the test says
 
@@ -102,7 +102,7 @@ course-slots : (cs : List Course) (n : ℕ) (c : Course) → Slots cs n → n < 
     → heightOf (take n cs) + c .width ≤ 76800 → Slots (set cs n c) (n + 1)
 unfolding coursesClear coursesBlank
 course-slots cs n c s h k l =
-    let e : take (n + 1) (set cs n c) ≡ take n cs ++ (c ∷ []) = rw (add-one n) (take-suc-set cs n c (omega (arith, s .twelve))) in
+    let e = take-set cs n c (omega (arith, s .twelve)) in
     record {
       twelve = length-set cs n c ∙ s .twelve;
       few = omega arith;
@@ -202,7 +202,7 @@ held-next s c h e =
     let high = tooHigh (heightOf (held s)) c in
     let o = first-cons (NoTank when tankBlank (s .tank)) ((CoursesFull when leb 12 (s .count)) ∷ (courseFlaws c ++ high ∷ [])) e in
     let f = leb-false 12 (s .count) (first-cons (CoursesFull when leb 12 (s .count)) (courseFlaws c ++ high ∷ []) (o .1) .0) in
-    rw (add-one (s .count)) (take-suc-set (s .courses) (s .count) c (omega (arith, f, reach-slots s h .twelve)))
+    take-set (s .courses) (s .count) c (omega (arith, f, reach-slots s h .twelve))
 
 pub reply-reachable : (s : Sheet) (x : Step) (y : Reply) → y ≡ applied s x → T (reachable s) → T (reachable (y .sheet))
 reply-reachable s x y e h = subst (λ (z : Reply). T (reachable (z .sheet))) (sym e) (step-reachable s h x)

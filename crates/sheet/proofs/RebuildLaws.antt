@@ -32,7 +32,7 @@ use Rattle.lists.proofs.BoolLaws.{three-yes}
 use Rattle.lists.proofs.PadLaws.{padded-next}
 use Rattle.entries.proofs.OrderLaws.{first-then, clash, clear-accepted}
 use Rattle.entries.proofs.CourseLaws.{height-append}
-use Rattle.sheet.proofs.StepLaws.{tank-applied, site-applied, anchors-applied, course-applied}
+use Rattle.sheet.proofs.StepLaws.{tank-applied, site-applied, anchors-applied, course-applied, turn}
 use Rattle.sheet.proofs.ReachLaws.{anchors-blank, Slots, Held, reach-halves, reach-slots, parts-held, empty-reachable, run-reachable}
 
 -- ---- a reachable sheet is its parts, with blank slots behind its courses
@@ -85,10 +85,6 @@ module _ (s : Sheet) (h : T (reachable s)) where
 
 -- ---- it is rebuilt from the empty sheet
 
--- steps in turn, all of them accepted
-in-turn-next : (s t : Sheet) (x : Step) (xs : List Step) (r : Reply) → applied s x ≡ accepted t → inTurn t xs ≡ r → inTurn s (x ∷ xs) ≡ r
-in-turn-next s t x xs r e f = ap (λ (y : Reply). unless (y .answer) (inTurn (y .sheet) xs)) e ∙ f
-
 module _ (t : Tank) (x : SiteEntry.SiteEntry) (a : Anchors) where
   abbrev with : List Course → Sheet
   with h = sheetOf (TankEntry.the-variants.Filled t) x a h
@@ -108,9 +104,8 @@ module _ (t : Tank) (x : SiteEntry.SiteEntry) (a : Anchors) where
   courses-added [] h l k m = ap (λ (r : List Course). accepted (with r)) (sym (append-nil h))
   courses-added (c ∷ rest) h l k m =
       let d = and-yes (clear (courseFlaws c)) (coursesClear rest) k in
-      in-turn-next (with h) (with (h ++ c ∷ [])) (addCourse c) (map addCourse rest) (accepted (with (h ++ c ∷ rest)))
-      (course-added h c (omega arith) (d .0) (omega arith))
-      (courses-added rest (h ++ c ∷ []) (omega (arith, length-append h (c ∷ []))) (d .1) (omega (arith, height-append h (c ∷ [])))
+      turn (with h) (addCourse c) (map addCourse rest) (course-added h c (omega arith) (d .0) (omega arith))
+      ∙ (courses-added rest (h ++ c ∷ []) (omega (arith, length-append h (c ∷ []))) (d .1) (omega (arith, height-append h (c ∷ [])))
       ∙ ap (λ (r : List Course). accepted (with r)) (append-snoc h c rest))
 
 -- what a sheet holds, stated in document 01's order; a site that is blank is not stated
@@ -140,7 +135,7 @@ module _ (t : Tank) where
       → inTurn (bare SiteEntry.the-variants.Blank noAnchors) (siteSteps x ++ xs) ≡ r
   sites-next SiteEntry.the-variants.Blank xs r k e = e
   sites-next (SiteEntry.the-variants.Filled x) xs r k e =
-      in-turn-next (bare SiteEntry.the-variants.Blank noAnchors) (bare (SiteEntry.the-variants.Filled x) noAnchors) (stateSite x) xs r (site-next x k) e
+      turn (bare SiteEntry.the-variants.Blank noAnchors) (stateSite x) xs (site-next x k) ∙ e
 
   all-stated : (x : SiteEntry.SiteEntry) (a : Anchors) (cs : List Course)
       → T (clear (tankFlaws t)) → T (siteClear x) → T (clear (anchorFlaws (t .diameter) a))
@@ -148,10 +143,10 @@ module _ (t : Tank) where
       → inTurn emptySheet (stepsOf t x a cs) ≡ accepted (sheetOf (TankEntry.the-variants.Filled t) x a cs)
   all-stated x a cs kt kx ka l kc m =
       let whole = accepted (sheetOf (TankEntry.the-variants.Filled t) x a cs) in
-      in-turn-next emptySheet (bare SiteEntry.the-variants.Blank noAnchors) (stateTank t) (siteSteps x ++ stateAnchors a ∷ map addCourse cs) whole (tank-first kt)
-      (sites-next x (stateAnchors a ∷ map addCourse cs) whole kx
-      (in-turn-next (bare x noAnchors) (bare x a) (stateAnchors a) (map addCourse cs) whole (anchors-next x a ka)
-      (courses-added t x a cs [] (omega arith) kc (omega arith))))
+      turn emptySheet (stateTank t) (siteSteps x ++ stateAnchors a ∷ map addCourse cs) (tank-first kt)
+      ∙ sites-next x (stateAnchors a ∷ map addCourse cs) whole kx
+      (turn (bare x noAnchors) (stateAnchors a) (map addCourse cs) (anchors-next x a ka)
+      ∙ courses-added t x a cs [] (omega arith) kc (omega arith))
 
 -- A SHEET THAT PASSES THE TEST IS WHAT ITS OWN STEPS LEAVE
 pub rebuilt : (s : Sheet) → T (reachable s) → (d : Held (s .tank))

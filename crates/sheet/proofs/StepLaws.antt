@@ -10,7 +10,7 @@ use Rattle.fields.specs.declared.refusal.Refusal.{Refusal}
 use Rattle.fields.specs.declared.refusal.Refusal.the-variants.{Unreachable, TankStated, NoTank, CoursesFull}
 use Rattle.entries.specs.Order.{Condition, _when_, firstOf}
 use Rattle.entries.specs.Sheet.{tooHigh, emptySheet, held, heightOf, tankFlaws, siteFlaws, anchorFlaws, courseFlaws, tankOf}
-use Rattle.sheet.specs.Steps.{Step, stateTank, stateSite, stateAnchors, addCourse, tankBlank, orderOf, filled, kept, refused, replied, applied, stated, reachable, unless, inTurn}
+use Rattle.sheet.specs.Steps.{Step, stateTank, stateSite, stateAnchors, addCourse, tankBlank, orderOf, filled, refused, replied, applied, stated, reachable, unless, inTurn}
 use Rattle.entries.specs.declared.sheet.Tank.{Tank}
 use Rattle.entries.specs.declared.sheet.Site.{Site}
 use Rattle.entries.specs.declared.sheet.Anchors.{Anchors}
@@ -86,13 +86,14 @@ module _ (s : Sheet) where
   unfolding stated applied
   stated-applied x e = rw e
 
--- steps in turn, after the first of them was given the answer a
-module _ (s : Sheet) (x : Step) (xs : List Step) {a : Answer} (e : applied s x ≡ replied a s (filled s x)) where
-  turn : inTurn s (x ∷ xs) ≡ unless a (inTurn (kept a s (filled s x)) xs)
-  turn = ap (λ (y : Reply). unless (y .answer) (inTurn (y .sheet) xs)) e
+-- steps in turn, after the first of them was given this reply
+pub turn : (s : Sheet) (x : Step) (xs : List Step) {y : Reply} → applied s x ≡ y → inTurn s (x ∷ xs) ≡ unless (y .answer) (inTurn (y .sheet) xs)
+turn s x xs e = ap (λ (y : Reply). unless (y .answer) (inTurn (y .sheet) xs)) e
 
+-- or this answer
+module _ (s : Sheet) (x : Step) (xs : List Step) {a : Answer} (e : applied s x ≡ replied a s (filled s x)) where
   pub turn-refused : {r : Refusal} → a ≡ Refused r → inTurn s (x ∷ xs) ≡ refused r emptySheet
-  turn-refused h = turn ∙ rw h
+  turn-refused h = turn s x xs e ∙ rw h
 
   pub turn-accepted : a ≡ Accepted → inTurn s (x ∷ xs) ≡ inTurn (filled s x) xs
-  turn-accepted h = turn ∙ rw h
+  turn-accepted h = turn s x xs e ∙ rw h
