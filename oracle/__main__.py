@@ -18,6 +18,7 @@ from pathlib import Path
 
 import document
 import figures
+import held
 import judged
 import judging
 import leaves
@@ -51,15 +52,27 @@ def leaf_files():
     return {STDIN: stdin, STDOUT: stdout}
 
 
+RECORDS = {"": scripts, "judged_": judged, "held_": held}   # what a module's group names begin with
+
+
 def all_groups():
-    """The scripts of steps and bytes, then the judged sheets: name to records."""
-    to_judge = {f"judged_{name}": [records.to_judge(record) for record in group]
-                for name, group in judged.group_records().items()}
-    return {**scripts.group_records(), **to_judge}
+    """The scripts of steps and bytes, the judged sheets, the held ones: name to records."""
+    return {prefix + name: group for prefix, module in RECORDS.items()
+            for name, group in module.group_records().items()}
 
 
 def all_records():
-    return [record for group in all_groups().values() for record in group]
+    return records.in_turn(all_groups())
+
+
+def all_outcomes():
+    return [result for module in RECORDS.values() for result in module.all_outcomes()]
+
+
+def judged_counts():
+    """Of all records that judge."""
+    results = [result.judged for result in all_outcomes() if result.judged is not None]
+    return judged.counted(result.word() for result in results)
 
 
 def record_parts():
@@ -68,7 +81,7 @@ def record_parts():
 
 def script_files():
     stdin = b"".join(record_parts())
-    stdout = leaves.as_bytes(scripts.all_lines() + judged.all_lines())
+    stdout = leaves.as_bytes(result.line() for result in all_outcomes())
     assert len(all_records()) < MOST_RECORDS
     return {SCRIPTS_STDIN: stdin, SCRIPTS_STDOUT: stdout}
 
@@ -96,7 +109,7 @@ def made_count(name, content):
     lines = f"{line_count} lines"
     counts = {
         SCRIPTS_STDIN: lambda: f"{len(all_records())} records",
-        SCRIPTS_STDOUT: lambda: f"{lines} (judged: {judged.word_counts()})",
+        SCRIPTS_STDOUT: lambda: f"{lines} (judged: {judged_counts()})",
         MARKER_STDIN: lambda: "1 sheet",
         SHEETS_STDIN: sheets.sheets_summary,
         SHEETS_STDOUT: lambda: f"{lines} ({sheets.texts_summary()})",
@@ -165,7 +178,7 @@ def check():
 def groups():
     for line in records.group_lines(all_groups()):
         print(line)
-    print(f"judged: {judged.word_counts()}")
+    print(f"judged: {judged_counts()}")
     print("marker: the one sheet of oracle/example.txt")
     for line in records.group_lines(sheets.group_cases()):
         print(f"sheets_{line}")
@@ -214,7 +227,7 @@ def main(arguments):
         return 2
     self_test(document, sheet, judging, text, figures, tries)
     if known is VECTOR_COMMANDS:
-        self_test(scripts, judged, sheets)      # over all vectors, which takes its time
+        self_test(scripts, judged, held, sheets)    # over all vectors, which takes its time
     return known[command](*operands)
 
 

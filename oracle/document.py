@@ -1,8 +1,9 @@
 """Document 01 ("Flat-bottom steel water tanks: the check sheet") as data and rules.
 
-Written from the document alone. Every figure is first an exact Fraction, then
-rounded as the document says. Letters (D, H, W, ...) are the document's; lengths
-are hundredths of an inch, plates mils, weights pounds, moments foot-pounds.
+Written from the document alone, with request S-1 of document 02. Every figure is
+first an exact Fraction, then rounded as the document says. Letters (D, H, W, ...)
+are the document's; lengths are hundredths of an inch, plates mils, weights pounds,
+moments foot-pounds.
 """
 
 import struct
@@ -73,12 +74,13 @@ REFUSALS = {
     35: "no course",
     36: "no site",
     37: "H above Hs",
+    38: "anchors never stated",
 }
 FIELD_REFUSAL = 16  # the only one that gives a field
 
 
 def refusal_at(place, field):
-    """The refusal at this place of the document's order: its number and its field."""
+    """The refusal at this place of the list: its number and its field."""
     number = tuple(REFUSALS)[place]
     return number, field if number == FIELD_REFUSAL else 0
 
@@ -108,14 +110,16 @@ def course_refusal(tank_stated, courses_held, shell_height, course):
     return None
 
 
-def judge_refusal(tank_stated, courses_held, site_stated, H, shell_height):
-    """Order: 32, 35, 36, 37."""
+def judge_refusal(tank_stated, courses_held, site_stated, anchors_stated, H, shell_height):
+    """Order: 32, 35, 36, 38, 37; S-1 has 38 "straight after 36"."""
     if not tank_stated:
         return 32, 0
     if courses_held == 0:
         return 35, 0
     if not site_stated:
         return 36, 0
+    if not anchors_stated:
+        return 38, 0
     if H > shell_height:
         return 37, 0
     return None
@@ -368,16 +372,21 @@ def self_test():
     # the other cases
     assert (house_floor(60_000), house_floor(60_001)) == (188, 250)
     assert (house_floor(144_000), house_floor(144_001)) == (250, 313)
-    assert judge_refusal(True, 3, True, 28_800, Hs) is None
-    assert judge_refusal(True, 3, True, 28_801, Hs) == (37, 0)
+    assert judge_refusal(True, 3, True, True, 28_800, Hs) is None
+    assert judge_refusal(True, 3, True, True, 28_801, Hs) == (37, 0)
     assert course_refusal(True, 3, Hs, course) is None
     too_high = (14_400, t, c, s, E)
     assert course_refusal(True, 11, 70_000, too_high) == (34, 0)
     assert course_refusal(True, 12, 70_000, too_high) == (33, 0)
 
+    # anchors never stated
+    for H in (28_800, 28_801):
+        assert judge_refusal(True, 3, True, False, H, Hs) == (38, 0)
+        assert judge_refusal(True, 3, False, False, H, Hs) == (36, 0)
+
     # data
     assert list(FIELD_RANGES) == list(range(1, 20))
-    assert list(REFUSALS) == [*range(11, 20), *range(30, 38)]
+    assert list(REFUSALS) == [*range(11, 20), *range(30, 39)]
     assert [n for n in range(8) if field_in_range(ANCHORS_FIELD, n)] == [0, 6, 7]
 
     # ties to even: they need a side of 2**53 or more (see leaves.quotient_edges)

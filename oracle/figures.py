@@ -23,6 +23,11 @@ FIELDS = {                      # of each word; document 01's steps
     "course": doc.COURSE_FIELDS,
 }
 MOST_LINES = {"tank": 1, "site": 1, "anchors": 1, "course": MOST_COUNT}
+MISSING = {                     # what bytes always state
+    "tank": "there is no tank up to the end",
+    "site": "there is no site up to the end",
+    "anchors": "there is no anchors line up to the end; 'anchors 0 0 0' states none",
+}
 
 
 class Mistake(Exception):
@@ -65,18 +70,17 @@ def parts_in(lines):
         if len(parts[name]) == MOST_LINES[name]:
             raise Mistake(number, f"{name} comes again; {MOST_LINES[name]} is the most")
         parts[name].append(figures)
-    for name in ("tank", "site"):
+    for name, missing in MISSING.items():
         if not parts[name]:
-            raise Mistake(len(lines), f"there is no {name} up to the end")
+            raise Mistake(len(lines), missing)
     return parts
 
 
 def sheet_bytes(content):
-    """The bytes of the sheet with the figures in these lines; anchors left out mean N = 0."""
+    """The bytes of the sheet with the figures in these lines."""
     lines = content.decode("utf-8-sig", errors="replace").removesuffix("\n").split("\n")
     parts = parts_in(lines)
-    anchors = parts["anchors"] or [model.SELF_ANCHORED]
-    return model.as_bytes(*parts["tank"], *parts["site"], *anchors, parts["course"])
+    return model.as_bytes(*parts["tank"], *parts["site"], *parts["anchors"], parts["course"])
 
 
 def example_bytes():
@@ -87,6 +91,7 @@ def example_bytes():
 
 TANK = "tank 14,400 28800 11000 250 0 36000"
 SITE = "site 105 109 115 27 30000"
+NO_ANCHORS = "anchors 0 0 0"
 COURSE = "course 9600 250 0 15000 85"
 MISTAKES = (        # lines, and how the mistake in them is said
     ((TANK, "tonk 1"), "line 2: 'tonk' is none of tank, site, anchors, course"),
@@ -105,10 +110,14 @@ MISTAKES = (        # lines, and how the mistake in them is said
      f"line 1: 1{'0' * 5_000} is above 4294967295, the most that four bytes hold"),
     ((TANK, "# once", TANK), "line 3: tank comes again; 1 is the most"),
     ((TANK, SITE, SITE), "line 3: site comes again; 1 is the most"),
-    (("anchors 0 0 0", "anchors 0 0 0"), "line 2: anchors comes again; 1 is the most"),
+    ((NO_ANCHORS, NO_ANCHORS), "line 2: anchors comes again; 1 is the most"),
     ((TANK, SITE, *[COURSE] * 256), "line 258: course comes again; 255 is the most"),
     ((SITE, COURSE), "line 2: there is no tank up to the end"),
     ((TANK, COURSE, ""), "line 3: there is no site up to the end"),
+    ((TANK, SITE, COURSE),
+     "line 3: there is no anchors line up to the end; 'anchors 0 0 0' states none"),
+    ((TANK, SITE, f"# {NO_ANCHORS}", ""),
+     "line 4: there is no anchors line up to the end; 'anchors 0 0 0' states none"),
     (("",), "line 1: there is no tank up to the end"),
 )
 
@@ -124,18 +133,19 @@ def mistake_in(lines):
 def self_test():
     example = model.EXAMPLE
     assert example_bytes() == model.sheet_as_bytes(example)
-    plain = "\n".join((COURSE, "", f"{SITE}#1 2", f"  {TANK}\r", COURSE, COURSE))
+    plain = "\n".join((COURSE, NO_ANCHORS, "", f"{SITE}#1 2", f"  {TANK}\r", COURSE, COURSE))
     assert sheet_bytes(plain.encode()) \
         == model.sheet_as_bytes(example._replace(anchors=model.SELF_ANCHORED))
     for lines, said in MISTAKES:
         assert mistake_in(lines) == said, (said, mistake_in(lines))
 
     # what bytes can hold is taken, also what the marker refuses
-    most = sheet_bytes(f"{TANK}\nsite 0 4,294,967,295 007 0 4294967295".encode())
+    most = sheet_bytes(f"{TANK}\nsite 0 4,294,967,295 007 0 4294967295\n{NO_ANCHORS}".encode())
     assert most == model.as_bytes(example.tank, (0, MOST_FIGURE, 7, 0, MOST_FIGURE),
                                   model.SELF_ANCHORED, ())
-    many = sheet_bytes("\n".join((TANK, SITE, *[COURSE] * MOST_COUNT)).encode())
+    many = sheet_bytes("\n".join((TANK, SITE, NO_ANCHORS, *[COURSE] * MOST_COUNT)).encode())
     assert len(many) == model.bytes_with(MOST_COUNT) and many[model.COUNT_AT] == MOST_COUNT
     # whatever a comment is made of
-    assert sheet_bytes(b"# \xff\x0c\xe2\x80\xa8\r" + f"\n{TANK}\n{SITE}".encode()) \
+    assert sheet_bytes(b"# \xff\x0c\xe2\x80\xa8\r"
+                       + f"\n{TANK}\n{SITE}\n{NO_ANCHORS}".encode()) \
         == model.as_bytes(example.tank, example.site, model.SELF_ANCHORED, ())

@@ -1,10 +1,8 @@
 """The judging vectors: sheets handed in for judging, in named groups.
 
-A record is one of two: READ, bytes to be read and judged, or FORGE, a sheet built by hand and
-judged as it is (to the program they are MARK and JUDGE). Its line is the answer and then the
-report, which beside a refusal is one stated value. A group yields cases: a case is the records
-by which one sheet is handed in, and `sound`, `short` and `refused` also say, by hand, what the
-answer to each of them is to be.
+A record is one of two: MARK, bytes to be read and judged, or JUDGE, a sheet built by hand and
+judged as it is. A group yields cases: a case is the records by which one sheet is handed in,
+and `sound`, `short` and `refused` also say, by hand, what the answer to each of them is to be.
 `python3 oracle groups` lists the records, and so the lines, of each group.
 """
 
@@ -12,7 +10,6 @@ from collections import Counter
 from functools import cache
 from itertools import product
 from random import Random
-from typing import NamedTuple
 
 import document as doc
 import judging
@@ -20,67 +17,30 @@ import near
 import scripts
 import sheet as model
 from judging import FULL_HEADS
-from leaves import beside, hexadecimal, verdict_text
-from records import FORGE, READ, answer_word, forge, forged, read, refusal_word
+from leaves import beside, hexadecimal
+from records import (
+    JUDGE, JUDGING, MARK, MOST_BUFFER, NO_REPORT_TEXT, in_turn, judge, mark, outcome_on,
+    refusal_word, to_judge,
+)
 from scripts import (
-    U32_MOST, courses_to, first_of, just_outside, subsets, widths_to, with_field, with_slot,
+    U32_MOST, courses_to, first_of, just_outside, lacking, subsets, unstated, widths_to,
+    with_field, with_slot,
 )
 
 LEAST_RANDOM_SHEETS = 2_000
 
-# --- Lines --------------------------------------------------------------------
-
-
-def standing_text(standing):
-    first, second = map(verdict_text, standing.rules().values())
-    if isinstance(standing, judging.Anchored):
-        return f"anchored {standing.wind_pull} {standing.earthquake_pull} {first} {second}"
-    return f"self {first} {standing.T} {standing.lift} {second}"
-
-
-def course_text(course):
-    return f"| {course.need} {course.required} {course.t} {verdict_text(course.verdict)}"
-
-
-def report_text(report):
-    blanks = ["."] * (doc.MOST_COURSES - len(report.courses))
-    uses = map(hexadecimal, judging.uses(report))
-    return " ".join([judging.word(report), f"wind {report.p} {report.M}",
-                     standing_text(report.standing), "uses", *uses,
-                     f"courses {len(report.courses)}", *map(course_text, report.courses), *blanks])
-
-
-NO_REPORT_TEXT = report_text(judging.NO_REPORT)
-
-
-class Outcome(NamedTuple):
-    sheet: model.Sheet          # the one judged; where reading refuses, the empty one
-    refusal: tuple | None
-    report: judging.Report
-
-    def word(self):
-        return "refused" if self.refusal is not None else judging.word(self.report)
-
-    def line(self):
-        return f"{answer_word(self.refusal, 'accepted')} {report_text(self.report)}"
+# --- Making cases -------------------------------------------------------------
 
 
 @cache
 def outcome(record):
-    if record.opcode == READ:
-        sheet, answer = judging.mark(record.payload)
-    else:
-        sheet = forged(model.bytes_as_figures(record.payload))
-        answer = judging.judge(sheet)
-    return Outcome(sheet, *answer)
-
-
-# --- Making cases -------------------------------------------------------------
+    """The same whatever sheet is the current one."""
+    return outcome_on(None, record)
 
 
 def handed_in(sheet):
     """A complete sheet, as bytes and as it is."""
-    return read(model.sheet_as_bytes(sheet)), forge(sheet)
+    return mark(model.sheet_as_bytes(sheet)), judge(sheet)
 
 
 def has_part(line, part):
@@ -92,8 +52,8 @@ def reported(sheet, short_rules, shows):
     records = handed_in(sheet)
     for record in records:
         result = outcome(record)
-        assert result.refusal is None, result
-        assert judging.short_rules(result.report) == short_rules, (short_rules, result)
+        assert result.judged.refusal is None, result
+        assert judging.short_rules(result.judged.report) == short_rules, (short_rules, result)
         assert not shows or has_part(result.line(), shows), (shows, result.line())
     return records
 
@@ -205,8 +165,8 @@ def example_cases():
     yield short(changed(standing, D=60_001), "wind", shows="| 164 250 250 holds")
     yield refused("refused 37", *handed_in(changed(EXAMPLE, H=28_801)))
     thirteen = model.as_bytes(*EXAMPLE[:3], [EXAMPLE.courses[0]] * 13)
-    yield refused("refused 13", read(thirteen))
-    yield refused("refused 30", forge(with_widths(EXAMPLE, [5_900] * 12)._replace(count=13)))
+    yield refused("refused 13", mark(thirteen))
+    yield refused("refused 30", judge(with_widths(EXAMPLE, [5_900] * 12)._replace(count=13)))
 
 
 def readings_astray():
@@ -237,84 +197,120 @@ def readings_astray():
 
 def judge_order():
     """Each subset of the refusals that a sheet can have. Without 30 a sheet without a tank is
-    the empty one, which has no course and no site either, nor an H for 37. A sheet without a
-    course has H above Hs, so that 35 comes with 37."""
-    words = {number: f"refused {number}" for number in (30, 32, 35, 36, 37)}
+    the empty one, which has no course, no site and no anchors either, nor an H for 37. A sheet
+    without a course has H above Hs, so that 35 comes with 37, unless H is 0 and 30 is there."""
+    words = {number: f"refused {number}" for number in (30, 32, 35, 36, 38, 37)}
     for present in subsets(tuple(words)):
-        without_tank = 32 in present
-        if without_tank and (37 in present or 30 not in present and not {35, 36} <= set(present)):
+        if 32 in present and (37 in present or 30 not in present
+                              and not {35, 36, 38} <= set(present)):
             continue
-        if not without_tank and 35 in present and 37 not in present:
+        if 35 in present and not {30, 32, 37} & set(present):
             continue
-        tank = with_field(EXAMPLE.tank, 2, 28_801) if 37 in present else EXAMPLE.tank
-        sheet = model.held(None if without_tank else tank,
-                           None if 36 in present else EXAMPLE.site,
-                           (0, 0, 1) if 30 in present else model.SELF_ANCHORED,
-                           () if 35 in present else EXAMPLE.courses[:3])
+        H = 28_801 if 37 in present else 0 if 35 in present else 28_800
+        sheet = lacking(present, with_field(EXAMPLE.tank, 2, H), EXAMPLE.site,
+                        EXAMPLE.courses[:3])
         if present:
-            yield refused(first_of(words, present, ""), forge(sheet))
+            yield refused(first_of(words, present, ""), judge(sheet))
         else:
             yield short(sheet, "wind")
 
 
 def incomplete():
-    """Steps that leave a sheet without a part; anchors unstated and N = 0 are the same."""
-    yield refused("refused 32", forge(model.EMPTY))
+    """Steps that leave a sheet without a part; anchors without a tank are left by none."""
+    yield refused("refused 32", judge(model.EMPTY))
     for anchors in (model.SELF_ANCHORED, EXAMPLE.anchors):
+        yield refused("refused 30", judge(model.EMPTY._replace(anchors=anchors)))
+    for anchors in (None, model.SELF_ANCHORED, EXAMPLE.anchors):
         for n in (1, 3):
             no_site = model.held(EXAMPLE.tank, None, anchors, EXAMPLE.courses[:n])
-            yield refused("refused 36", forge(no_site))
-        yield refused("refused 35", forge(model.held(EXAMPLE.tank, EXAMPLE.site, anchors, ())))
-        yield refused("refused 35", forge(model.held(EXAMPLE.tank, None, anchors, ())))
+            yield refused("refused 36", judge(no_site))
+        yield refused("refused 35", judge(model.held(EXAMPLE.tank, EXAMPLE.site, anchors, ())))
+        yield refused("refused 35", judge(model.held(EXAMPLE.tank, None, anchors, ())))
+
+
+def unstated_anchors():
+    """38 beside every number of courses, and before 37; 36 without a site. With N = 0 stated
+    the same sheet is judged as self-anchored."""
+    for n in range(1, 13):
+        sheet = changed(with_widths(SELF, [6_400] * n), W=150_000)
+        Hs = model.shell_height(sheet)
+        for H in sorted({Hs, min(Hs + 1, 76_800), 76_800}):
+            stated = changed(sheet, H=H)
+            yield sound(stated, "self holds") if H == Hs \
+                else refused("refused 37", *handed_in(stated))
+            yield refused("refused 38", judge(unstated(stated)))
+            yield refused("refused 36", judge(unstated(stated)._replace(site=None)))
+    for end, widths in ((0, [1_200]), (0, [1_200] * 12), (1, [12_800] * 6), (1, [6_400] * 12)):
+        yield refused("refused 38", judge(unstated(scripts.all_at(end, widths))))
+
+
+def stated_in_turn():
+    """The example tank as steps leave it, whose anchors are unstated, refused, stated, stated
+    again and refused."""
+    sheet = unstated(EXAMPLE)
+    yield refused("refused 38", judge(sheet))
+    for figures in ((5, 14_800, 8), (6, 14_399, 8), (0, 0, 8)):
+        sheet = model.take_step(sheet, model.ANCHORS, figures).sheet
+        yield refused("refused 38", judge(sheet))
+    for figures, *rules in (((0, 0, 0), "wind"), (EXAMPLE.anchors,), ((0, 0, 0), "wind"),
+                            ((6, 22_919, 8), "spacing"), (EXAMPLE.anchors,)):
+        sheet = model.take_step(sheet, model.ANCHORS, figures).sheet
+        yield reported(sheet, rules, "self short" if figures == (0, 0, 0) else "anchored")
+    for figures in ((5, 14_800, 8), (6, 14_399, 8), (0, 0, 8)):
+        sheet = model.take_step(sheet, model.ANCHORS, figures).sheet
+        yield sound(sheet, "anchored 2133 -211")
 
 
 def broken_slots():
     """30 by a slot alone, and with each of the later refusals."""
-    tank_only = model.held(EXAMPLE.tank, None, model.SELF_ANCHORED, ())
-    for sheet in (EXAMPLE, changed(EXAMPLE, H=28_801), EXAMPLE._replace(site=None),
-                  tank_only, tank_only._replace(site=EXAMPLE.site), model.EMPTY):
+    no_course = model.held(EXAMPLE.tank, None, model.SELF_ANCHORED, ())
+    for sheet in (EXAMPLE, changed(EXAMPLE, H=28_801), unstated(EXAMPLE),
+                  EXAMPLE._replace(site=None), no_course, no_course._replace(site=EXAMPLE.site),
+                  unstated(no_course), model.EMPTY):
         for place in (sheet.count, 11):         # slots that are to be blank
             for figures in (EXAMPLE.courses[0], (0, 0, 0, 0, 1), (1, 0, 0, 0, 0)):
-                yield refused("refused 30", forge(with_slot(sheet, place, figures)))
+                yield refused("refused 30", judge(with_slot(sheet, place, figures)))
     for place in range(3):
         hole = with_slot(EXAMPLE, place, model.NO_COURSE)
-        yield refused("refused 30", forge(hole))
-        yield refused("refused 37" if place == 2 else "refused 30", forge(hole._replace(count=2)))
+        yield refused("refused 30", judge(hole))
+        yield refused("refused 37" if place == 2 else "refused 30", judge(hole._replace(count=2)))
 
 
 def blank_slot_rubbish():
     for place, field in product(range(3, doc.MOST_COURSES), doc.COURSE_FIELDS):
         rubbish = (1, 7, doc.FIELD_RANGES[field][1], U32_MOST)[(place + field) % 4]
         figures = with_field(model.NO_COURSE, field, rubbish)
-        yield refused("refused 30", forge(with_slot(EXAMPLE, place, figures)))
+        yield refused("refused 30", judge(with_slot(EXAMPLE, place, figures)))
 
 
 def counts_astray():
     """Too large or too small, also such as a narrower number takes for right."""
     twelve = with_widths(EXAMPLE, [6_400] * 12)
     for count in (0, 11, 13, 14, 255, 256 + 12, 2**16 + 12, 2**31 + 12, U32_MOST):
-        yield refused("refused 30", forge(twelve._replace(count=count)))
+        yield refused("refused 30", judge(twelve._replace(count=count)))
     for count in (0, 2, 4, 12, 13, 256 + 3, 2**16 + 3, 2**31 + 3, U32_MOST):
-        yield refused("refused 30", forge(EXAMPLE._replace(count=count)))
+        yield refused("refused 30", judge(EXAMPLE._replace(count=count)))
     for count in (1, 12, 13, U32_MOST):
-        yield refused("refused 30", forge(model.EMPTY._replace(count=count)))
+        yield refused("refused 30", judge(model.EMPTY._replace(count=count)))
 
 
 def openings(*groups):
     """The scripts of these groups open with the sheet or the bytes that they are about."""
-    return [script[:1] for group in groups for script in group()]
+    return [(to_judge(script[0]),) for group in groups for script in group()]
 
 
 def forged_as_in_scripts():
     """Every kind of sheet that no run of steps leaves, and some beside them that a run does."""
     return openings(scripts.forged_figures, scripts.forged_without_tank, scripts.forged_heights,
-                    scripts.forged_anchors, scripts.forged_allowances, scripts.forged_huge)
+                    scripts.forged_anchors, scripts.forged_allowances, scripts.forged_huge,
+                    scripts.forged_wrong_and_unstated)
 
 
 def left_by_a_run():
     """Built by hand, complete or not, and never refused 30."""
-    cases = openings(scripts.forged_ends_taken, scripts.forged_parts_taken)
-    assert all(outcome(record).refusal != (30, 0) for (record,) in cases)
+    cases = openings(scripts.forged_ends_taken, scripts.forged_parts_taken,
+                     scripts.forged_anchors_unstated)
+    assert all(outcome(record).word != "refused 30" for (record,) in cases)
     return cases
 
 
@@ -322,7 +318,7 @@ def reading_singly():
     """Each refusal of reading; 11 to 15, then those of the steps."""
     for damage in scripts.BYTES_ORDER:
         word, _change = damage
-        yield refused(word, scripts.damaged((damage,)))
+        yield refused(word, to_judge(scripts.damaged((damage,))))
 
 
 def reading_as_in_scripts():
@@ -336,25 +332,25 @@ def reading_before_judging():
     """H above Hs as well: what reading refuses goes before 37."""
     high = changed(EXAMPLE, H=28_801)
     content = model.sheet_as_bytes(high)
-    yield refused("refused 37", read(content))
+    yield refused("refused 37", mark(content))
     for length in (0, 1, 2, 60, len(content) - 1):
-        yield refused("refused 11", read(content[:length]))
-    yield refused("refused 12", read(content + b"\0"))
-    yield refused("refused 13", read(b"\0\x77" + content[2:] + b"\0"))
-    yield refused("refused 14", read(content[:2] + b"\0" + content[3:]))
-    yield refused("refused 15", read(content[:59] + b"\2" + content[60:]))
+        yield refused("refused 11", mark(content[:length]))
+    yield refused("refused 12", mark(content + b"\0"))
+    yield refused("refused 13", mark(b"\0\x77" + content[2:] + b"\0"))
+    yield refused("refused 14", mark(content[:2] + b"\0" + content[3:]))
+    yield refused("refused 15", mark(content[:59] + b"\2" + content[60:]))
     for field in doc.FIELD_RANGES:
         for figure in just_outside(field):
             outside = with_figure(changed(EXAMPLE, H=76_800), field, figure)
             yield refused(refusal_word(doc.FIELD_REFUSAL, field),
-                          read(model.sheet_as_bytes(outside)))
+                          mark(model.sheet_as_bytes(outside)))
     for wrong in (changed(high, allowance=250), course_changed(high, 3, c=250)):
-        yield refused("refused 17", read(model.sheet_as_bytes(wrong)))
+        yield refused("refused 17", mark(model.sheet_as_bytes(wrong)))
     for anchors in ((6, 14_399, 8), (6, 14_400, 13), (0, 14_400, 0), (0, 0, 8)):
         wrong = high._replace(anchors=anchors)
-        yield refused("refused 18", read(model.sheet_as_bytes(wrong)))
+        yield refused("refused 18", mark(model.sheet_as_bytes(wrong)))
     wrong = with_widths(changed(EXAMPLE, H=76_800), widths_to(76_801, 8))
-    yield refused("refused 34", read(model.sheet_as_bytes(wrong)))
+    yield refused("refused 34", mark(model.sheet_as_bytes(wrong)))
 
 
 # --- Groups: each verdict at equality, and one past it on both sides ----------
@@ -460,7 +456,7 @@ def lift_boundaries():
             yield sound_if(Ms <= lift, changed(sheet, Ms=Ms), "earthquake", shows=f"{T} {word}")
     for W in range(18_346, 18_356):
         sheet = changed(SELF, W=W)
-        T = outcome(forge(sheet)).report.standing.T
+        T = outcome(judge(sheet)).judged.report.standing.T
         for boundary in (785, 1_540):
             most = doc.rounded_down(boundary * T, 1_000)
             for Ms in (most, most + 1):
@@ -581,10 +577,10 @@ def courses_told_apart():
     """Twelve courses of other figures each, every one just enough; each in turn one mil short."""
     sheet = with_courses(changed(EXAMPLE, D=100_000, H=70_000, W=400_000, N=40, B=100_000),
                          scripts.FULL_COURSES)
-    for number, course in enumerate(outcome(forge(sheet)).report.courses, start=1):
+    for number, course in enumerate(outcome(judge(sheet)).judged.report.courses, start=1):
         sheet = course_changed(sheet, number, t=course.required)
     yield sound(sheet)
-    for number, course in enumerate(outcome(forge(sheet)).report.courses, start=1):
+    for number, course in enumerate(outcome(judge(sheet)).judged.report.courses, start=1):
         yield short(course_changed(sheet, number, t=course.t - 1), f"course {number}")
     for place in range(11):         # two neighbours change places
         slots = list(sheet.courses)
@@ -603,7 +599,7 @@ def pressures():
                         (109, 115, 96, 1_800), (109, 115, 97, 1_812), (109, 115, 150, 4_333)):
         for sheet in (EXAMPLE, SELF):
             records = handed_in(changed(sheet, Kz=Kz, I=I, V=V))
-            assert outcome(records[0]).report.p == p
+            assert outcome(records[0]).judged.report.p == p
             yield records
 
 
@@ -681,7 +677,7 @@ def water_on_rim():
     thin = [changed(SELF, plate=plate, allowance=plate - 1) for plate in (100, 101, 250, 251)]
     thin += [changed(thin[0], H=1_200), changed(thin[0], Fy=30_000), changed(thin[0], Fy=50_000)]
     for sheet in (*nearby, *thin, WHOLE_BY_ROOT, WHOLE_BY_CAP):
-        most = doc.rounded_down(1_540 * outcome(forge(sheet)).report.standing.T, 1_000)
+        most = doc.rounded_down(1_540 * outcome(judge(sheet)).judged.report.standing.T, 1_000)
         yield handed_in(sheet)
         for Ms in (most, most + 1):
             yield handed_in(changed(sheet, Ms=Ms))
@@ -745,6 +741,14 @@ def random_even():
         yield in_one_way(rng, scripts.random_sheet(rng))
 
 
+def random_unstated():
+    """Drawn in the same ways, before their anchors are stated."""
+    rng = Random(15)
+    for draw in (near.self_anchored_sheet, near.anchored_sheet, scripts.random_sheet):
+        for _ in range(40):
+            yield refused("refused 38", judge(unstated(draw(rng))))
+
+
 def random_damage():
     """The scripts' damaged bytes and sheets; some are still accepted."""
     return openings(scripts.random_damage, scripts.random_noise, scripts.random_forged)
@@ -759,7 +763,8 @@ IN_TURN = (
 )
 GROUPS = (
     example_cases, readings_astray,
-    judge_order, incomplete, broken_slots, blank_slot_rubbish, counts_astray,
+    judge_order, incomplete, unstated_anchors, stated_in_turn,
+    broken_slots, blank_slot_rubbish, counts_astray,
     forged_as_in_scripts, left_by_a_run,
     reading_singly, reading_as_in_scripts, reading_before_judging,
     course_at_equality, self_wind_at_equality, self_earthquake_at_equality,
@@ -767,7 +772,7 @@ GROUPS = (
     one_course_short, one_standing_rule_short, several_short,
     floors, water_levels, course_counts, courses_told_apart,
     pressures, pulls, bolt_sizes, field_ends, water_on_rim, margins,
-    *RANDOM_SHEETS, random_damage,
+    *RANDOM_SHEETS, random_unstated, random_damage,
 )
 
 
@@ -785,7 +790,7 @@ def group_records():
 
 
 def all_records():
-    return [record for records in group_records().values() for record in records]
+    return in_turn(group_records())
 
 
 @cache
@@ -793,18 +798,10 @@ def all_outcomes():
     return [outcome(record) for record in all_records()]
 
 
-def all_lines():
-    return [result.line() for result in all_outcomes()]
-
-
 def counted(words):
     """How many are called sound, called short and refused."""
     counts = Counter(words)
     return ", ".join(f"{counts[word]} {word}" for word in ("sound", "short", "refused"))
-
-
-def word_counts():
-    return counted(result.word() for result in all_outcomes())
 
 
 # --- Self test, over all vectors ----------------------------------------------
@@ -814,48 +811,61 @@ def check_lines():
     """The example's line and the one stated value, spelled out."""
     plate, spacing, strength = (hexadecimal(doc.use_bits(*sides)) for sides in (
         (188, 250), (355 * 14_800, 1_356_000 * 6), (1_000 * 2_133, 19_950 * 606)))
-    assert outcome(forge(EXAMPLE)).line() == (
+    assert outcome(judge(EXAMPLE)).line() == (
         f"accepted sound wind 2123 73371 anchored 2133 -211 holds {spacing} holds {strength} "
         f"uses {spacing} {strength} courses 3 | 59 188 250 holds {plate} "
         f"| 40 188 250 holds {plate} | 20 188 250 holds {plate} . . . . . . . . .")
-    assert outcome(forge(model.EMPTY)).line() == (
+    assert outcome(judge(model.EMPTY)).line() == (
         "refused 32 short wind 0 0 self short 0000000000000000 0 over short 0000000000000000 "
         "uses 0000000000000000 0000000000000000 courses 0 . . . . . . . . . . . .")
 
 
-def check_demand_3():
+def check_demand_3(results):
     """Of every sheet that gets a report."""
-    for number, result in enumerate(all_outcomes(), start=1):
-        if result.refusal is None:
-            word = result.word()
-            assert judging.borne_out(result.sheet, word), \
+    for number, result in enumerate(results, start=1):
+        if result.word == "accepted":
+            sheet, word = result.judged.sheet, result.judged.word()
+            assert judging.borne_out(sheet, word), \
                 f"demand 3: record {number} is called {word}; exact fractions do not bear it " \
-                f"out: {result.sheet}"
+                f"out: {sheet}"
 
 
 def check_refusals():
     """All that judging has are there, and those of reading, 16 with every field."""
-    words = {answer_word(result.refusal, "accepted") for result in all_outcomes()}
-    numbers = (*range(11, 16), 17, 18, 30, 32, 34, 35, 36, 37)
+    words = {result.word for result in all_outcomes()}
+    numbers = (*range(11, 16), 17, 18, 30, 32, 34, *range(35, 39))
     fields = {f"refused 16 {field}" for field in doc.FIELD_RANGES}
     assert words == {"accepted", *(f"refused {number}" for number in numbers), *fields}
+
+
+def check_beside_writing(records, results):
+    """Up to 38 a sheet is refused as in writing, and then by 37 alone. Bytes are never
+    refused 38."""
+    for record, result in zip(records, results, strict=True):
+        if record.opcode == MARK:
+            assert result.word != "refused 38"
+        elif record.opcode in JUDGING:
+            refusal = model.write_refusal(result.judged.sheet, MOST_BUFFER)
+            expected = (None, (37, 0)) if refusal is None else (refusal,)
+            assert result.judged.refusal in expected
 
 
 def check_shares():
     """Of the random sheets: both words, both ways of standing, both opcodes, every count."""
     records = [record for group in RANDOM_SHEETS for record in group_records()[group.__name__]]
-    results = [result for result in map(outcome, records) if result.refusal is None]
+    results = [result.judged for result in map(outcome, records) if result.word == "accepted"]
     words = Counter(result.word() for result in results)
     ways = Counter(type(result.report.standing) for result in results)
     assert len(results) >= LEAST_RANDOM_SHEETS
     assert min(words["sound"], words["short"]) >= len(results) / 4
     assert min(ways[judging.SelfAnchored], ways[judging.Anchored]) >= len(results) / 3
-    assert {record.opcode for record in records} == {READ, FORGE}
+    assert {record.opcode for record in records} == {MARK, JUDGE}
     assert {result.sheet.count for result in results} == {*range(1, doc.MOST_COURSES + 1)}
 
 
 def self_test():
     check_lines()
-    check_demand_3()
+    check_demand_3(all_outcomes())
     check_refusals()
+    check_beside_writing(all_records(), all_outcomes())
     check_shares()

@@ -1,7 +1,8 @@
 """Judging the sheet of document 01, and demand 3 in fractions.
 
-Written from the document alone: "Order", "The rules" with the paragraphs after them, and the
-mission's third demand. The rules' figures are document.py's; `meets` takes none of them.
+Written from the document alone: "Order" (with request S-1 of document 02), "The rules" with the
+paragraphs after them, and the mission's third demand. The rules' figures are document.py's;
+`meets` takes none of them.
 """
 
 from fractions import Fraction
@@ -74,12 +75,12 @@ def word(report):
 
 
 def refusal_of(sheet):
-    """Order: 30, then 32, 35, 36, 37."""
+    """Order: 30, then 32, 35, 36, 38, 37."""
     if not model.left_by_a_run(sheet):
         return 30, 0
     _D, H, *_rest = sheet.tank or (0,) * len(doc.TANK_FIELDS)
-    return doc.judge_refusal(sheet.tank is not None, sheet.count, sheet.site is not None, H,
-                             model.shell_height(sheet))
+    return doc.judge_refusal(sheet.tank is not None, sheet.count, sheet.site is not None,
+                             sheet.anchors is not None, H, model.shell_height(sheet))
 
 
 def bottom_edges(sheet):
@@ -187,7 +188,7 @@ def exact_wind_moment(sheet, margins):
     D, *_rest = sheet.tank
     V, Kz, I, *_rest = sheet.site
     Hs = model.shell_height(sheet)
-    p = max(Fraction(6 * Kz * I * V * V, 390_625), 1_800)
+    p = max(Fraction(6 * Kz * I * V * V, 390_625), Fraction(1_800))
     return p * D * Hs * Hs / 345_600_000_000 + margins.moment
 
 
@@ -293,6 +294,16 @@ def check_margins():
         assert not meets(sheet, alone), f"the margin of {name} counts for nothing"
 
 
+def check_exact():
+    """The margins, none and given, and M with either are Fractions: with the least pressure
+    (V 96) and with one above it."""
+    for V in (96, 97):
+        sheet = model.EXAMPLE._replace(site=(V, *model.EXAMPLE.site[1:]))
+        for margins in (NO_MARGINS, given_margins(sheet)):
+            assert {type(figure) for figure in (*margins, exact_wind_moment(sheet, margins))} \
+                == {Fraction}
+
+
 def self_test():
     refusal, report = judge(model.EXAMPLE)
     assert refusal is None and word(report) == "sound"
@@ -305,8 +316,10 @@ def self_test():
     refusal, report = judge(model.EXAMPLE._replace(anchors=model.SELF_ANCHORED))
     assert refusal is None and short_rules(report) == ["wind"]
     assert report.standing[1:3] == (94_646, "none")
+    assert judge(model.EXAMPLE._replace(anchors=None)) == ((38, 0), NO_REPORT)
 
     # the mission's margins, on a tank of 12 ft by 24 ft
     assert given_margins(model.EXAMPLE) \
         == (1, Fraction(12 * 24 * 24, 200) + 1, Fraction(12 * 12, 50) + 1, 1)
+    check_exact()
     check_margins()

@@ -557,7 +557,7 @@ LEAVES = {
         bolt_edges,
     ),
     12: Leaf(
-        ((0, 16), (0, 19)),
+        ((0, len(doc.REFUSALS) - 1), (0, 19)),
         lambda place, field: refusal_text(*doc.refusal_at(place, field)),
         (),
         refusal_edges,

@@ -2,24 +2,28 @@
 
 The program holds one current sheet. A record is an opcode byte, two bytes for the length of
 the payload, and the payload; its figures have four bytes each. All numbers are big-endian.
-Each record has one line: the answer's word, and then the sheet or the lent buffer after it.
-MARK and JUDGE, whose lines judged.py has, judge what READ and FORGE would make the current
-sheet, and leave that as it is.
+Each record has one line: the answer's word, and then the sheet after it, the lent buffer or
+the report, which beside a refusal is one stated value. MARK and JUDGE judge what READ and
+FORGE would make the current sheet, JUDGE_HELD judges the current one; all three leave that
+as it is.
 """
 
 import struct
 from typing import NamedTuple
 
 import document as doc
+import judging
 import sheet as model
+from leaves import hexadecimal, verdict_text
 
 MOST_BUFFER = 512
 MOST_READ = 700
 
 # --- Records ------------------------------------------------------------------
 
-NEW, TANK, SITE, ANCHORS, COURSE, WRITE, READ, FORGE, MARK, JUDGE = range(10)
-OPENING = (NEW, READ, FORGE)    # these set the current sheet
+NEW, TANK, SITE, ANCHORS, COURSE, WRITE, READ, FORGE, MARK, JUDGE, JUDGE_HELD = range(11)
+OPENING = (NEW, READ, FORGE)            # these set the current sheet
+JUDGING = (MARK, JUDGE, JUDGE_HELD)     # these have a report
 STEPS = {TANK: model.TANK, SITE: model.SITE, ANCHORS: model.ANCHORS, COURSE: model.COURSE}
 
 
@@ -67,28 +71,43 @@ def stated(part, fields):
     return (0,) * (1 + len(fields)) if part is None else (1, *part)
 
 
+def part_in(figures):
+    """The part that is stated by these figures, or None."""
+    flag, *part = figures
+    return tuple(part) if flag else None
+
+
 def forge(sheet):
-    figures = [*stated(sheet.tank, doc.TANK_FIELDS), *stated(sheet.site, doc.SITE_FIELDS)]
-    figures += (*sheet.anchors, sheet.count)
+    figures = [*stated(sheet.tank, doc.TANK_FIELDS), *stated(sheet.site, doc.SITE_FIELDS),
+               *stated(sheet.anchors, doc.ANCHOR_FIELDS), sheet.count]
     for slot in sheet.courses:
         figures += slot
-    assert len(figures) == 77
+    assert len(figures) == 78
     return figures_record(FORGE, figures)
 
 
 def forged(figures):
     """The sheet of a forge record's figures."""
-    tank_stated, *tank_figures = figures[:7]
-    site_stated, *site_figures = figures[7:13]
-    slots = tuple(figures[start:start + 5] for start in range(17, 77, 5))
-    return model.Sheet(tuple(tank_figures) if tank_stated else None,
-                       tuple(site_figures) if site_stated else None,
-                       figures[13:16], slots, figures[16])
+    slots = tuple(figures[start:start + 5] for start in range(18, 78, 5))
+    return model.Sheet(part_in(figures[:7]), part_in(figures[7:13]), part_in(figures[13:17]),
+                       slots, figures[17])
 
 
 def to_judge(record):
     """The record that hands the same bytes, or the same sheet, in for judging."""
     return record._replace(opcode={READ: MARK, FORGE: JUDGE}[record.opcode])
+
+
+def mark(content):
+    return to_judge(read(content))
+
+
+def judge(sheet):
+    return to_judge(forge(sheet))
+
+
+def judge_held():
+    return Record(JUDGE_HELD, b"")
 
 
 def as_bytes(record):
@@ -103,6 +122,11 @@ def part_number(parts, offset):
         if offset < end:
             return number
     return len(parts) + 1
+
+
+def in_turn(groups):
+    """All records of these groups."""
+    return [record for group in groups.values() for record in group]
 
 
 def group_lines(groups):
@@ -141,10 +165,47 @@ def sheet_text(sheet):
         + "".join(map(slot_text, sheet.courses))
 
 
+def standing_text(standing):
+    first, second = map(verdict_text, standing.rules().values())
+    if isinstance(standing, judging.Anchored):
+        return f"anchored {standing.wind_pull} {standing.earthquake_pull} {first} {second}"
+    return f"self {first} {standing.T} {standing.lift} {second}"
+
+
+def course_text(course):
+    return f"| {course.need} {course.required} {course.t} {verdict_text(course.verdict)}"
+
+
+def report_text(report):
+    blanks = ["."] * (doc.MOST_COURSES - len(report.courses))
+    uses = map(hexadecimal, judging.uses(report))
+    return " ".join([judging.word(report), f"wind {report.p} {report.M}",
+                     standing_text(report.standing), "uses", *uses,
+                     f"courses {len(report.courses)}", *map(course_text, report.courses), *blanks])
+
+
+NO_REPORT_TEXT = report_text(judging.NO_REPORT)
+
+# --- Outcomes -----------------------------------------------------------------
+
+
+class Judged(NamedTuple):
+    sheet: model.Sheet          # the one judged; where reading refuses, the empty one
+    refusal: tuple | None
+    report: judging.Report
+
+    def word(self):
+        return "refused" if self.refusal is not None else judging.word(self.report)
+
+
 class Outcome(NamedTuple):
-    word: str               # the answer, without the sheet or the buffer
-    text: str               # the rest of the line
-    sheet: model.Sheet      # the current one after the record
+    word: str                       # the answer, without what follows it
+    text: str                       # the rest of the line
+    sheet: model.Sheet              # the current one after the record
+    judged: Judged | None = None    # by a record of JUDGING
+
+    def line(self):
+        return self.word + self.text
 
 
 def lent_buffer(size, fill):
@@ -160,8 +221,26 @@ def sheet_outcome(word, sheet):
     return Outcome(word, sheet_text(sheet), sheet)
 
 
-def outcome(sheet, record):
+def judged_by(sheet, record):
+    """The sheet is the current one; to MARK and JUDGE it makes no difference."""
+    if record.opcode == MARK:
+        read_sheet, answer = judging.mark(record.payload)
+        return Judged(read_sheet, *answer)
+    if record.opcode == JUDGE:
+        sheet = forged(model.bytes_as_figures(record.payload))
+    return Judged(sheet, *judging.judge(sheet))
+
+
+def judged_outcome(sheet, judged):
+    return Outcome(answer_word(judged.refusal, "accepted"), f" {report_text(judged.report)}",
+                   sheet, judged)
+
+
+def outcome_on(sheet, record):
+    """Of the record, while this sheet is the current one."""
     opcode, payload = record
+    if opcode in JUDGING:
+        return judged_outcome(sheet, judged_by(sheet, record))
     if opcode == NEW:
         return sheet_outcome("held", model.EMPTY)
     if opcode == READ:
@@ -179,6 +258,6 @@ def outcome(sheet, record):
 def outcomes(records):
     sheet = None    # the first record sets it
     for record in records:
-        result = outcome(sheet, record)
+        result = outcome_on(sheet, record)
         sheet = result.sheet
         yield result

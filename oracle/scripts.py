@@ -15,9 +15,9 @@ import document as doc
 import example
 import sheet as model
 from records import (
-    ANCHORS, COURSE, MOST_BUFFER, MOST_READ, OPENING, READ, SITE, STEPS, TANK, WRITE,
-    anchors, course, figures_record, forge, forged, lent_buffer, new, outcomes, read,
-    refusal_word, site, tank, write,
+    ANCHORS, COURSE, FORGE, JUDGE, JUDGE_HELD, JUDGING, MOST_BUFFER, MOST_READ, OPENING, READ,
+    SITE, STEPS, TANK, WRITE, anchors, course, figures_record, forge, forged, in_turn,
+    lent_buffer, new, outcomes, read, refusal_word, sheet_text, site, tank, write,
 )
 
 LEAST_RECORDS = 2_500
@@ -79,6 +79,11 @@ def with_slot(sheet, place, figures):
     return sheet._replace(courses=slots)
 
 
+def unstated(sheet):
+    """The sheet before its anchors are stated."""
+    return sheet._replace(anchors=None)
+
+
 def just_outside(field):
     """One past each end; below 0 that is the u32 that stands for -1."""
     least, greatest = doc.FIELD_RANGES[field]
@@ -129,7 +134,8 @@ def full_with(n):
 
 ONE, THREE = full_with(1), full_with(3)
 ONE_BYTES, THREE_BYTES, FULL_BYTES = map(model.sheet_as_bytes, (ONE, THREE, FULL))
-TANK_ONLY = model.held(FULL_TANK, None, model.SELF_ANCHORED, ())
+TANK_ONLY = model.held(FULL_TANK, None, None, ())
+SELF_BYTES = model.sheet_as_bytes(ONE._replace(anchors=model.SELF_ANCHORED))
 
 # Plates of 500 leave room for every allowance; without anchors every D will do.
 WIDE_TANK = with_field(FULL_TANK, 4, 500)
@@ -191,7 +197,7 @@ def example_as_bytes():
 
 
 def first_of(words, present, accepted):
-    """The word of the first refusal present; `words` is in the document's order."""
+    """The word of the first refusal present; `words` is in the order of refusal."""
     return next((word for number, word in words.items() if number in present), accepted)
 
 
@@ -200,8 +206,7 @@ def tank_order():
     words = {30: "refused 30", 31: "refused 31", 16: "refused 16 3", 17: "refused 17"}
     for present in subsets((30, 31, 16, 17)):
         sheet = model.held(FULL_TANK if 31 in present else None,
-                           with_outside(FULL_SITE, 7) if 30 in present else None,
-                           model.SELF_ANCHORED, ())
+                           with_outside(FULL_SITE, 7) if 30 in present else None, None, ())
         figures = example.TANK
         if 16 in present:
             figures = with_outside(figures, 3)
@@ -215,7 +220,7 @@ def site_order():
     words = {30: "refused 30", 32: "refused 32", 16: "refused 16 8"}
     for present in subsets((30, 32, 16)):
         sheet = model.held(None if 32 in present else FULL_TANK, None,
-                           (0, 1, 0) if 30 in present else model.SELF_ANCHORED, ())
+                           (0, 1, 0) if 30 in present else None, ())
         figures = with_outside(FULL_SITE, 8) if 16 in present else FULL_SITE
         yield case(first_of(words, present, "ok"), *holding(sheet), site(figures))
 
@@ -226,8 +231,7 @@ def anchors_order():
     words = {30: "refused 30", 32: "refused 32", 16: "refused 16 12", 18: "refused 18"}
     for present in subsets((30, 32, 16, 18)):
         sheet = model.held(None if 32 in present else FULL_TANK,
-                           with_outside(FULL_SITE, 7) if 30 in present else None,
-                           model.SELF_ANCHORED, ())
+                           with_outside(FULL_SITE, 7) if 30 in present else None, None, ())
         figures = (201 if 16 in present else 24, 18_654, 13 if 18 in present else 12)
         yield case(first_of(words, present, "ok"), *holding(sheet), anchors(figures))
     wrong = TANK_ONLY._replace(site=with_outside(FULL_SITE, 7))
@@ -244,8 +248,7 @@ def course_order_sheet(present):
     if 32 in present and n == 1:
         courses = ()
     return model.held(None if 32 in present else FULL_TANK,
-                      with_outside(FULL_SITE, 7) if 30 in present else None,
-                      model.SELF_ANCHORED, courses)
+                      with_outside(FULL_SITE, 7) if 30 in present else None, None, courses)
 
 
 def course_order():
@@ -268,18 +271,25 @@ def course_order():
         yield case("refused 16 15", *steps_to(TANK_ONLY), course(figures))
 
 
+def lacking(present, tank_figures, site_figures, courses):
+    """A sheet with those of 30, 32, 35, 36 and 38 that are present. 30 is by anchors that do
+    not agree or, beside 38, by a slot past the count."""
+    figures = None if 38 in present else (0, 0, 1) if 30 in present else model.SELF_ANCHORED
+    sheet = model.held(None if 32 in present else tank_figures,
+                       None if 36 in present else site_figures, figures,
+                       () if 35 in present else courses)
+    return with_slot(sheet, 11, (0, 0, 0, 0, 1)) if {30, 38} <= set(present) else sheet
+
+
 def write_order():
-    """Without 30, 32 comes only together with 35 and 36: such a sheet is the empty one."""
+    """Without 30, 32 comes only with 35, 36 and 38: such a sheet is the empty one."""
     words = {30: "refused 30", 32: "refused 32", 35: "refused 35", 36: "refused 36",
-             19: "refused 19"}
-    for present in subsets((30, 32, 35, 36, 19)):
-        if 32 in present and not {35, 36} <= set(present) and 30 not in present:
+             38: "refused 38", 19: "refused 19"}
+    for present in subsets((30, 32, 35, 36, 38, 19)):
+        if 32 in present and not {35, 36, 38} <= set(present) and 30 not in present:
             continue
-        courses = () if 35 in present else FULL_COURSES[:2]
-        sheet = model.held(None if 32 in present else FULL_TANK,
-                           None if 36 in present else FULL_SITE,
-                           (0, 0, 1) if 30 in present else model.SELF_ANCHORED, courses)
-        need = model.bytes_with(len(courses))
+        sheet = lacking(present, FULL_TANK, FULL_SITE, FULL_COURSES[:2])
+        need = model.bytes_with(sheet.count)
         size = need - 1 if 19 in present else need
         yield case(first_of(words, present, "wrote 100"), *holding(sheet), write(size, 11))
 
@@ -483,19 +493,24 @@ def restated_site():
                       site(with_outside(FULL_SITE, field)), write(80, field), site(example.SITE))
 
 
+ACCEPTED_ANCHORS = (        # on the full sheet's tank
+    (6, 18_000, 6), (200, 300_000, 16), (0, 0, 0), (24, 18_654, 14), FULL_ANCHORS,
+)
+REFUSED_ANCHORS = (
+    ("refused 16 12", (5, 18_000, 8)), ("refused 16 13", (6, 300_001, 8)),
+    ("refused 16 14", (6, 18_000, 17)), ("refused 18", (6, 17_999, 8)),
+    ("refused 18", (6, 18_000, 13)), ("refused 18", (0, 18_000, 0)), ("refused 18", (0, 0, 8)),
+)
+
+
 def restated_anchors():
     before = steps_to(ONE)
-    accepted = ((6, 18_000, 6), (200, 300_000, 16), (0, 0, 0), (24, 18_654, 14), FULL_ANCHORS)
-    refused = (("refused 16 12", (5, 18_000, 8)), ("refused 16 13", (6, 300_001, 8)),
-               ("refused 16 14", (6, 18_000, 17)), ("refused 18", (6, 17_999, 8)),
-               ("refused 18", (6, 18_000, 13)), ("refused 18", (0, 18_000, 0)),
-               ("refused 18", (0, 0, 8)))
-    words, wrong = zip(*refused)
-    for figures in accepted:
+    words, wrong = zip(*REFUSED_ANCHORS)
+    for figures in ACCEPTED_ANCHORS:
         yield answers(["ok"] * 5 + [*words, "wrote 80"], *before, anchors(figures),
                       *map(anchors, wrong), write(80, 2))
-    yield case("wrote 80", *before, *map(anchors, accepted), write(80, 3))
-    yield case("wrote 80", *before, *map(anchors, reversed(accepted)), write(80, 4))
+    yield case("wrote 80", *before, *map(anchors, ACCEPTED_ANCHORS), write(80, 3))
+    yield case("wrote 80", *before, *map(anchors, reversed(ACCEPTED_ANCHORS)), write(80, 4))
 
 
 def restated_before_courses():
@@ -506,10 +521,6 @@ def restated_before_courses():
                   anchors(model.SELF_ANCHORED))
     yield case("wrote 100", new(), tank(FULL_TANK), course(FULL_COURSES[0]), site(example.SITE),
                course(FULL_COURSES[1]), anchors((6, 20_000, 8)), site(FULL_SITE), write(100, 5))
-    # stated N = 0 and never stated: the same sheet
-    yield case("wrote 80", new(), tank(FULL_TANK), anchors((0, 0, 0)), site(FULL_SITE),
-               course(FULL_COURSES[0]), write(80, 6), new(), tank(FULL_TANK), site(FULL_SITE),
-               course(FULL_COURSES[0]), write(80, 6))
 
 
 def tank_twice():
@@ -538,6 +549,92 @@ def refused_then_accepted():
                   course(with_plate(LOW_COURSE, 250, 250)), course(LOW_COURSE))
     yield answers(["ok", "refused 18", "ok", "refused 18"], new(), tank(FULL_TANK),
                   anchors((6, 17_999, 8)), anchors((6, 18_000, 8)), anchors((6, 17_999, 8)))
+
+
+# --- Groups: anchors unstated and stated --------------------------------------
+
+
+def unstated_then_stated():
+    """38 until anchors are stated, N = 0 or more; of two statements the later one counts."""
+    for sheet in (ONE, EXAMPLE):
+        before = steps_to(unstated(sheet))
+        need = model.bytes_with(sheet.count)
+        words = ["ok"] * (len(before) - 1) + ["refused 38", "ok", f"wrote {need}"]
+        for figures in ACCEPTED_ANCHORS:
+            yield answers(words, *before, write(need, 1), anchors(figures), write(need, 2))
+        for one, other in permutations(((0, 0, 0), (6, 18_000, 6), (24, 18_654, 12)), 2):
+            yield answers([*words, "ok", f"wrote {need}"], *before, write(need, 3), anchors(one),
+                          write(need, 4), anchors(other), write(need, 5))
+    # the same steps, with N = 0 stated and without
+    yield answers(["ok"] * 4 + ["wrote 80", "held"] + ["ok"] * 3 + ["refused 38"], new(),
+                  tank(FULL_TANK), anchors((0, 0, 0)), site(FULL_SITE), course(FULL_COURSES[0]),
+                  write(80, 6), new(), tank(FULL_TANK), site(FULL_SITE), course(FULL_COURSES[0]),
+                  write(80, 6))
+
+
+def write_after_each_step():
+    """After the tank the other three in each order: what is missing first is the answer."""
+    words = {35: "refused 35", 36: "refused 36", 38: "refused 38"}
+    for figures, order in product(((0, 0, 0), FULL_ANCHORS), permutations(words)):
+        steps = {35: course(FULL_COURSES[0]), 36: site(FULL_SITE), 38: anchors(figures)}
+        records = [new(), write(80, 7), tank(FULL_TANK), write(80, 8)]
+        said = ["refused 32", "ok", "refused 35"]
+        for place, number in enumerate(order, start=1):
+            records += steps[number], write(80, place)
+            said += "ok", first_of(words, order[place:], "wrote 80")
+        yield answers(said, *records)
+
+
+def refused_anchors_stay_unstated():
+    """A refused statement leaves them unstated, and the next one may be accepted."""
+    before = steps_to(unstated(ONE))
+    for (word, wrong), right in product(REFUSED_ANCHORS, ((0, 0, 0), FULL_ANCHORS)):
+        yield answers(["ok"] * 3 + [word, "refused 38", "ok", "wrote 80"], *before,
+                      anchors(wrong), write(80, 1), anchors(right), write(80, 2))
+    words, wrong = zip(*REFUSED_ANCHORS)
+    yield answers(["ok"] * 3 + [*words, "refused 38"], *before, *map(anchors, wrong),
+                  write(80, 3))
+    no_run = unstated(ONE)._replace(site=with_outside(FULL_SITE, 7))
+    for figures in ACCEPTED_ANCHORS:
+        yield answers(["refused 32", "ok", "ok", "ok", "refused 38"], new(), anchors(figures),
+                      tank(FULL_TANK), site(FULL_SITE), course(FULL_COURSES[0]), write(80, 4))
+        yield answers(["refused 30", "refused 30"], forge(no_run), anchors(figures),
+                      write(80, 5))
+
+
+def stated_anchors_stay():
+    """Whatever comes after them, refused or not: nothing makes them unstated again."""
+    later = (("refused 31", tank(FULL_TANK)), ("refused 31", tank((0,) * 6)),
+             ("refused 16 7", site(with_outside(FULL_SITE, 7))),
+             ("refused 16 15", course((0,) * 5)),
+             ("refused 17", course(with_plate(LOW_COURSE, 250, 250))),
+             *((word, anchors(wrong)) for word, wrong in REFUSED_ANCHORS),
+             ("refused 35", write(300, 1)), ("ok", site(FULL_SITE)), ("refused 35", write(300, 2)),
+             ("ok", course(FULL_COURSES[0])), ("refused 19", write(79, 3)),
+             ("wrote 80", write(80, 4)), ("ok", site(example.SITE)), ("wrote 80", write(300, 5)))
+    words, records = zip(*later)
+    for figures in ACCEPTED_ANCHORS:
+        yield answers(["ok", "ok", *words], new(), tank(FULL_TANK), anchors(figures), *records)
+    for n, word in ((11, "refused 34"), (12, "refused 33")):
+        wrote = f"wrote {model.bytes_with(n)}"
+        for figures in ((0, 0, 0), FULL_ANCHORS):
+            yield answers(["ok"] * (n + 3) + [word, wrote], new(), tank(FULL_TANK),
+                          anchors(figures), site(FULL_SITE), *map(course, courses_to(76_800, n)),
+                          course(LOW_COURSE), write(300, n))
+
+
+def reading_states_anchors():
+    """Bytes always state them. Reading that is refused leaves an empty sheet, and a new sheet
+    is one: there the anchors of the sheet before are unstated."""
+    again = (tank(FULL_TANK), site(FULL_SITE), course(FULL_COURSES[0]), write(80, 1))
+    for content in (ONE_BYTES, SELF_BYTES):
+        yield answers(["ok"] * 4 + ["wrote 80"], *steps_to(unstated(ONE)), read(content),
+                      write(80, 2))
+        yield answers(["ok"] * 3 + ["refused 11", "refused 32"], *steps_to(unstated(ONE)),
+                      read(content[:-1]), write(80, 3))
+        yield answers(["refused 12", "ok", "ok", "ok", "refused 38"], read(content),
+                      read(content + b"\0"), *again)
+        yield answers(["held", "ok", "ok", "ok", "refused 38"], read(content), new(), *again)
 
 
 # --- Groups: courses ----------------------------------------------------------
@@ -587,14 +684,15 @@ def refused_course_between():
     for word, wrong in REFUSED_COURSES:
         for place in (0, 1, 2):
             courses = [*FULL_COURSES[:place], wrong, *FULL_COURSES[place:3]]
-            words = ["ok"] * (place + 2) + [word] + ["ok"] * (3 - place) + ["wrote 120"]
-            yield answers(words, new(), tank(FULL_TANK), site(FULL_SITE), *map(course, courses),
-                          write(120, place))
+            words = ["ok"] * (place + 3) + [word] + ["ok"] * (3 - place) + ["wrote 120"]
+            yield answers(words, new(), tank(FULL_TANK), site(FULL_SITE), anchors((0, 0, 0)),
+                          *map(course, courses), write(120, place))
     # every other course is refused, and still twelve find room
     mixed = []
     for place, figures in enumerate(FULL_COURSES):
         mixed += [course(REFUSED_COURSES[place % 7][1]), course(figures)]
-    yield case("wrote 300", new(), tank(FULL_TANK), site(FULL_SITE), *mixed, write(300, 77))
+    yield case("wrote 300", new(), tank(FULL_TANK), site(FULL_SITE), anchors((0, 0, 0)), *mixed,
+               write(300, 77))
 
 
 # --- Groups: forged sheets ----------------------------------------------------
@@ -681,13 +779,15 @@ def forged_without_tank():
     without = model.EMPTY
     yield refused_30(without._replace(site=FULL_SITE))
     yield refused_30(without._replace(anchors=FULL_ANCHORS))
-    yield refused_30(model.held(None, None, model.SELF_ANCHORED, FULL_COURSES[:1]))
-    yield refused_30(model.held(None, FULL_SITE, model.SELF_ANCHORED, FULL_COURSES[:1]))
+    yield refused_30(model.held(None, None, None, FULL_COURSES[:1]))
+    yield refused_30(model.held(None, FULL_SITE, None, FULL_COURSES[:1]))
     yield refused_30(without._replace(site=FULL_SITE, anchors=FULL_ANCHORS))
     for sheet in (EXAMPLE, ONE, THREE, FULL):
         yield refused_30(sheet._replace(tank=None))
-    for figures in ((1, 0, 0), (0, 1, 0), (0, 0, 1), (6, 0, 8), (U32_MOST,) * 3):
+        yield refused_30(unstated(sheet)._replace(tank=None))
+    for figures in ((0, 0, 0), (1, 0, 0), (0, 1, 0), (0, 0, 1), (6, 0, 8), (U32_MOST,) * 3):
         yield refused_30(without._replace(anchors=figures))
+    yield refused_30(without._replace(site=FULL_SITE, anchors=(0, 0, 0)))
     yield refused_30(without._replace(site=(0,) * 5))
     yield refused_30(without._replace(tank=(0,) * 6))
 
@@ -738,6 +838,8 @@ def forged_huge():
     yield refused_30(most)
     yield refused_30(most._replace(count=12))
     yield refused_30(most._replace(tank=None, site=None))
+    yield refused_30(unstated(most)._replace(tank=None, site=None))
+    yield refused_30(unstated(most))
     yield refused_30(FULL._replace(tank=most.tank))
     yield refused_30(FULL._replace(site=most.site))
     yield refused_30(FULL._replace(anchors=most.anchors))
@@ -779,10 +881,9 @@ def all_at(end, widths):
 def forged_parts_taken():
     """Every kind of sheet that a run leaves, complete or not."""
     yield taken(model.EMPTY)
-    for parts in subsets(("site", "anchors", "course")):
-        yield taken(model.held(FULL_TANK, FULL_SITE if "site" in parts else None,
-                               FULL_ANCHORS if "anchors" in parts else model.SELF_ANCHORED,
-                               FULL_COURSES[:1] if "course" in parts else ()))
+    for parts in product((None, FULL_SITE), (None, (0, 0, 0), FULL_ANCHORS),
+                         ((), FULL_COURSES[:1])):
+        yield taken(model.held(FULL_TANK, *parts))
     for n in range(1, 13):
         yield taken(full_with(n))
     for n in range(6, 13):
@@ -794,6 +895,38 @@ def forged_parts_taken():
     yield taken(all_at(1, widths_to(76_800, 12)))
     # water above the shell is judge's alone (37)
     yield taken(ONE._replace(tank=with_field(FULL_TANK, 2, 76_800)))
+
+
+def forged_anchors_unstated():
+    """Beside every number of courses a run leaves anchors unstated, or N = 0 stated."""
+    for n in range(doc.MOST_COURSES + 1):
+        last = "refused 33" if n == 12 else "ok"
+        wrote = f"wrote {model.bytes_with(n)}"
+        for figures, word in ((None, "refused 38"), ((0, 0, 0), wrote)):
+            first = "refused 35" if n == 0 else word
+            sheet = full_with(n)._replace(anchors=figures)
+            yield answers([first, "refused 31", "ok", "ok", last], *asked(sheet))
+
+
+def forged_wrong_and_unstated():
+    """Anchors unstated beside what no run leaves."""
+    sheet = unstated(THREE)
+    for field in doc.TANK_FIELDS:
+        yield refused_30(sheet._replace(tank=with_outside(FULL_TANK, field)))
+    for field in doc.SITE_FIELDS:
+        yield refused_30(sheet._replace(site=with_outside(FULL_SITE, field)))
+    for place, field in enumerate(doc.COURSE_FIELDS):
+        course_figures = FULL_COURSES[place % 3]
+        yield refused_30(with_slot(sheet, place % 3, with_outside(course_figures, field)))
+    yield refused_30(sheet._replace(tank=with_plate(FULL_TANK, 250, 250)))
+    yield refused_30(with_slot(sheet, 1, with_plate(FULL_COURSES[1], 250, 250)))
+    for count in (0, 2, 4, 12, 13, 256 + 3, U32_MOST):
+        yield refused_30(sheet._replace(count=count))
+    for place in (3, 11):
+        yield refused_30(with_slot(sheet, place, LOW_COURSE))
+    yield refused_30(with_slot(sheet, 1, model.NO_COURSE))
+    for n in (6, 12):
+        yield refused_30(unstated(high_sheet(76_801, n)))
 
 
 # --- Groups: write ------------------------------------------------------------
@@ -823,14 +956,28 @@ def write_incomplete():
     """Every kind of sheet that lacks a part, with buffers too short for any and long enough."""
     sizes = (0, 59, 60, 79, 80, 200)
     yield answers(["refused 32"] * 6, new(), *(write(size, 50) for size in sizes))
-    for with_site, with_anchors, courses in product((0, 1), (0, 1), (0, 1, 3)):
-        sheet = model.held(FULL_TANK, FULL_SITE if with_site else None,
-                           FULL_ANCHORS if with_anchors else model.SELF_ANCHORED,
+    for with_site, figures, courses in product((0, 1), (None, (0, 0, 0), FULL_ANCHORS),
+                                               (0, 1, 3)):
+        sheet = model.held(FULL_TANK, FULL_SITE if with_site else None, figures,
                            FULL_COURSES[:courses])
-        wrote = f"wrote {model.bytes_with(courses)}"
-        word = "refused 35" if courses == 0 else wrote if with_site else "refused 36"
+        lacks = {35: courses == 0, 36: not with_site, 38: figures is None}
+        word = next((f"refused {number}" for number, lack in lacks.items() if lack),
+                    f"wrote {model.bytes_with(courses)}")
         before = steps_to(sheet)
         yield case(word, *before, *(write(size, 50 + size) for size in sizes))
+
+
+def write_unstated_anchors():
+    """Beside every number of courses, with a site and without, until N = 0 is stated; 38 goes
+    before 19."""
+    for n, site_figures in product(range(doc.MOST_COURSES + 1), (FULL_SITE, None)):
+        need = model.bytes_with(n)
+        lack = "refused 35" if n == 0 else "refused 36" if site_figures is None else None
+        words = [lack or "refused 38"] * 4 + ["ok", lack or f"wrote {need}"]
+        before = holding(unstated(full_with(n))._replace(site=site_figures))
+        lent = [write(size, 19 * n) for size in (0, need - 1, need, need + 1)]
+        yield answers(["ok"] * (len(before) - 1) + words, *before, *lent, anchors((0, 0, 0)),
+                      write(need, n))
 
 
 def write_ends():
@@ -1020,21 +1167,29 @@ def drawn_step(rng, opcode, D):
     return figures_record(opcode, figures)
 
 
-def random_steps():
+def random_run(rng, *second):
     """Mostly a tank first, then the other steps in any order, with writes between."""
+    first = drawn_tank(rng)
+    records = [new()]
+    if rng.random() < 0.9:
+        records.append(tank(first))
+    records += second
+    for _ in range(rng.randint(4, 24)):
+        opcode = rng.choices((TANK, SITE, ANCHORS, COURSE, WRITE), (1, 3, 3, 10, 2))[0]
+        if opcode == WRITE:
+            records.append(write(rng.choice((59, 80, 120, 200, 300)), rng.randrange(256)))
+        else:
+            records.append(drawn_step(rng, opcode, first[0]))
+    return records
+
+
+def random_steps():
+    """With N = 0 stated early, then with anchors unstated until a step happens to state them."""
     rng = Random(1)
     for _ in range(34):
-        first = drawn_tank(rng)
-        records = [new()]
-        if rng.random() < 0.9:
-            records.append(tank(first))
-        for _ in range(rng.randint(4, 24)):
-            opcode = rng.choices((TANK, SITE, ANCHORS, COURSE, WRITE), (1, 3, 3, 10, 2))[0]
-            if opcode == WRITE:
-                records.append(write(rng.choice((59, 80, 120, 200, 300)), rng.randrange(256)))
-            else:
-                records.append(drawn_step(rng, opcode, first[0]))
-        yield records
+        yield random_run(rng, anchors((0, 0, 0)))
+    for _ in range(16):
+        yield random_run(rng)
 
 
 def random_sheet(rng):
@@ -1120,16 +1275,25 @@ def random_noise():
         yield (read(content),)
 
 
+def one_figure_changed(rng, sheet):
+    """Of a sheet with a tank and a site; an unstated part stays so."""
+    figures = list(model.bytes_as_figures(forge(sheet).payload))
+    after_site = range(17 if sheet.anchors is None else 14, 78)
+    place = rng.choice([*range(1, 7), *range(8, 13), *after_site])
+    near = (0, 1, figures[place] + 1, abs(figures[place] - 1), figures[place] ^ 256,
+            rng.getrandbits(32))
+    figures[place] = min(rng.choice(near), U32_MOST)
+    return forged(tuple(figures))
+
+
 def random_forged():
-    """A sheet that a run leaves, with one figure changed: some are left by a run still."""
+    """A sheet that a run leaves, with one figure changed: some are left by a run still. The
+    anchors are stated, then unstated."""
     rng = Random(5)
     for _ in range(30):
-        figures = list(model.bytes_as_figures(forge(random_sheet(rng)).payload))
-        place = rng.choice([*range(1, 7), *range(8, 77)])
-        near = (0, 1, figures[place] + 1, abs(figures[place] - 1), figures[place] ^ 256,
-                rng.getrandbits(32))
-        figures[place] = min(rng.choice(near), U32_MOST)
-        yield asked(forged(tuple(figures)))
+        yield asked(one_figure_changed(rng, random_sheet(rng)))
+    for _ in range(15):
+        yield asked(one_figure_changed(rng, unstated(random_sheet(rng))))
 
 
 # --- All groups ---------------------------------------------------------------
@@ -1140,10 +1304,13 @@ GROUPS = (
     bytes_order, bytes_order_all_at_once,
     ranges_by_steps, two_fields_outside, allowances_by_steps, anchors_by_steps,
     restated_site, restated_anchors, restated_before_courses, tank_twice, refused_then_accepted,
+    unstated_then_stated, write_after_each_step, refused_anchors_stay_unstated,
+    stated_anchors_stay, reading_states_anchors,
     thirteenth_course, shell_height_at_most, refused_course_between,
     forged_figures, forged_counts, forged_slots, forged_without_tank, forged_heights,
     forged_anchors, forged_allowances, forged_huge, forged_ends_taken, forged_parts_taken,
-    write_sizes, write_fills, write_incomplete, write_ends,
+    forged_anchors_unstated, forged_wrong_and_unstated,
+    write_sizes, write_fills, write_incomplete, write_unstated_anchors, write_ends,
     cut_bytes, longer_bytes, every_length, length_of_no_sheet, versions, count_bytes,
     ranges_in_bytes, anchors_in_bytes, each_byte, steps_in_bytes, heights_in_bytes,
     everything_small,
@@ -1151,19 +1318,23 @@ GROUPS = (
 )
 
 
-@cache
-def group_records():
+def records_by_name(groups):
     """Name of the group to its records."""
-    groups = {}
-    for group in GROUPS:
+    by_name = {}
+    for group in groups:
         scripts = list(group())
         assert all(script[0].opcode in OPENING for script in scripts)
-        groups[group.__name__] = [record for script in scripts for record in script]
-    return groups
+        by_name[group.__name__] = [record for script in scripts for record in script]
+    return by_name
+
+
+@cache
+def group_records():
+    return records_by_name(GROUPS)
 
 
 def all_records():
-    return [record for records in group_records().values() for record in records]
+    return in_turn(group_records())
 
 
 @cache
@@ -1171,42 +1342,91 @@ def all_outcomes():
     return list(outcomes(all_records()))
 
 
-def all_lines():
-    return [result.word + result.text for result in all_outcomes()]
-
-
 # --- Self test, over all vectors ----------------------------------------------
 
 
+def check_forms():
+    """The figures and the text of a sheet, spelled out."""
+    three = (9_600, 250, 0, 15_000, 85) * 3
+    for sheet, stated, shown in ((EXAMPLE, (1, 6, 14_800, 8), "6 14800 8"),
+                                 (EXAMPLE._replace(anchors=(0, 0, 0)), (1, 0, 0, 0), "0 0 0"),
+                                 (unstated(EXAMPLE), (0, 0, 0, 0), "-")):
+        assert model.bytes_as_figures(forge(sheet).payload) == (
+            1, 14_400, 28_800, 11_000, 250, 0, 36_000, 1, 105, 109, 115, 27, 30_000, *stated, 3,
+            *three, *(0,) * 45)
+        assert sheet_text(sheet) == (
+            " tank 14400 28800 11000 250 0 36000 site 105 109 115 27 30000 "
+            f"anchors {shown} count 3{' course 9600 250 0 15000 85' * 3}{' -' * 9}")
+    assert forge(model.EMPTY).payload == bytes(4 * 78)
+    assert sheet_text(model.EMPTY) == f" tank - site - anchors - count 0{' -' * 12}"
+
+
 def check_read_and_write(content, result):
-    """Reading then writing accepted bytes gives the same bytes."""
+    """Reading then writing accepted bytes gives the same bytes, and they state anchors."""
     if result.word == "ok":
         written = model.write(result.sheet, bytes(len(content)))
         assert written == (None, len(content), content)
+        assert result.sheet.anchors is not None
     else:
         assert result.sheet == model.EMPTY
 
 
+def check_write(record, result):
+    """Writing then reading gives the same sheet; a refused write leaves the buffer."""
+    if result.word.startswith("refused"):
+        lent = lent_buffer(*model.bytes_as_figures(record.payload))
+        assert result.text == f" buffer {lent.hex()}"
+    else:
+        wrote, number = result.word.split()
+        buffer = bytes.fromhex(result.text.removeprefix(" buffer "))
+        assert wrote == "wrote" and model.read(buffer[:int(number)]) == (None, result.sheet)
+
+
+def check_judged(before, record, result):
+    """Judging leaves the current sheet as it is; JUDGE_HELD judges that one."""
+    assert result.sheet == before
+    assert record.opcode != JUDGE_HELD or result.judged.sheet == before
+
+
+def check_unstated(before, record, result):
+    """38 is said of a sheet whose anchors are unstated, and by these records alone."""
+    asked = before if result.judged is None else result.judged.sheet
+    assert asked.anchors is None and record.opcode in (WRITE, JUDGE, JUDGE_HELD)
+
+
 def check_outcome(before, record, result):
     assert model.left_by_a_run(result.sheet) == model.left_by_description(result.sheet)
+    if record.opcode == FORGE:
+        assert forge(result.sheet) == record
     if record.opcode == READ:
         check_read_and_write(record.payload, result)
     elif result.word.startswith("refused"):
         assert result.sheet == before
-    if record.opcode == WRITE and result.word.startswith("refused"):
-        lent = lent_buffer(*model.bytes_as_figures(record.payload))
-        assert result.text == f" buffer {lent.hex()}"
+    if record.opcode == WRITE:
+        check_write(record, result)
+    if record.opcode in JUDGING:
+        check_judged(before, record, result)
+    if record.opcode not in OPENING:
+        assert before.anchors is None or result.sheet.anchors is not None
+    if result.word == "refused 38":
+        check_unstated(before, record, result)
 
 
-def self_test():
-    records, results = all_records(), all_outcomes()
-    assert len(records) >= LEAST_RECORDS
+def check_outcomes(records, results):
+    """Of records that follow each other, the first of which sets the current sheet."""
     sheet = None
     for record, result in zip(records, results, strict=True):
         check_outcome(sheet, record, result)
         sheet = result.sheet
+
+
+def self_test():
+    check_forms()
+    records, results = all_records(), all_outcomes()
+    assert len(records) >= LEAST_RECORDS
+    check_outcomes(records, results)
     words = Counter(result.word for result in results)
     numbers = {int(word.split()[1]) for word in words if word.startswith("refused")}
-    assert numbers == {*range(11, 20), *range(30, 37)}      # 37 is judge's alone
+    assert numbers == {*range(11, 20), *range(30, 37), 38}      # 37 is judge's alone
     fields = {word for word in words if word.startswith("refused 16")}
     assert fields == {f"refused 16 {field}" for field in doc.FIELD_RANGES}

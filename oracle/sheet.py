@@ -1,6 +1,7 @@
 """The sheet of document 01: what each step leaves, and the sheet as bytes both ways.
 
-Written from the document alone ("Filling in", both lists of "Refusals", "Order").
+Written from the document alone ("Filling in", both lists of "Refusals", "Order") and from
+request S-1 of document 02, which tells anchors that were never stated from N = 0.
 A refusal is its number and its field (0 if it gives none), as in document.py;
 None stands for no refusal. Figures may be any whole number that a u32 holds.
 """
@@ -17,14 +18,14 @@ import example
 class Sheet(NamedTuple):
     tank: tuple | None      # fields 1 to 6; None is not stated
     site: tuple | None      # fields 7 to 11; None is not stated
-    anchors: tuple          # fields 12 to 14; never stated is the same as N = 0
+    anchors: tuple | None   # fields 12 to 14; None is not stated
     courses: tuple          # twelve slots of fields 15 to 19, from the bottom up
     count: int              # of the slots that hold a course
 
 
-SELF_ANCHORED = (0,) * len(doc.ANCHOR_FIELDS)
+SELF_ANCHORED = (0,) * len(doc.ANCHOR_FIELDS)   # N = 0, stated
 NO_COURSE = (0,) * len(doc.COURSE_FIELDS)       # what a blank slot holds
-EMPTY = Sheet(None, None, SELF_ANCHORED, (NO_COURSE,) * doc.MOST_COURSES, 0)
+EMPTY = Sheet(None, None, None, (NO_COURSE,) * doc.MOST_COURSES, 0)
 
 
 def held(tank, site, anchors, courses):
@@ -146,12 +147,12 @@ def run_to(sheet):
     """The one run worth trying. Whatever run leaves this sheet, its accepted steps that
     still show are these: the tank (there is but one), the last site, the last anchors and
     the courses in turn. What makes a step refused is the tank and the courses below, so
-    these steps in this order fare the same. Stating N = 0 changes nothing, so it is left out."""
+    these steps in this order fare the same."""
     if sheet.tank is not None:
         yield TANK, sheet.tank
     if sheet.site is not None:
         yield SITE, sheet.site
-    if sheet.anchors != SELF_ANCHORED:
+    if sheet.anchors is not None:
         yield ANCHORS, sheet.anchors
     for course in sheet.courses[:sheet.count]:
         yield COURSE, course
@@ -171,14 +172,14 @@ def left_by_description(sheet):
     if sheet.count > doc.MOST_COURSES:
         return False
     courses, blanks = sheet.courses[:sheet.count], sheet.courses[sheet.count:]
-    fields = [*zip(doc.TANK_FIELDS, sheet.tank), *zip(doc.ANCHOR_FIELDS, sheet.anchors)]
-    fields += zip(doc.SITE_FIELDS, sheet.site or ())
+    fields = [*zip(doc.TANK_FIELDS, sheet.tank), *zip(doc.SITE_FIELDS, sheet.site or ()),
+              *zip(doc.ANCHOR_FIELDS, sheet.anchors or ())]
     for course in courses:
         fields += zip(doc.COURSE_FIELDS, course)
     plates = [sheet.tank[3:5], *(course[1:3] for course in courses)]    # with allowances
     return all(doc.field_in_range(field, figure) for field, figure in fields) \
         and all(allowance < plate for plate, allowance in plates) \
-        and anchors_agree(sheet.anchors, sheet.tank[0]) \
+        and (sheet.anchors is None or anchors_agree(sheet.anchors, sheet.tank[0])) \
         and sum(course[0] for course in courses) <= doc.MOST_SHELL_HEIGHT \
         and all(slot == NO_COURSE for slot in blanks)
 
@@ -284,7 +285,7 @@ class Written(NamedTuple):
 
 
 def write_refusal(sheet, size):
-    """Order: 30, 32, 35, 36, 19."""
+    """Order: 30, 32, 35, 36, 38, 19."""
     if not left_by_a_run(sheet):
         return 30, 0
     if sheet.tank is None:
@@ -293,6 +294,8 @@ def write_refusal(sheet, size):
         return 35, 0
     if sheet.site is None:
         return 36, 0
+    if sheet.anchors is None:
+        return 38, 0
     if size < bytes_with(sheet.count):
         return 19, 0
     return None
@@ -333,5 +336,17 @@ def self_test():
     assert [n for n in map(courses_by_length, range(2**16)) if n] == list(range(1, 13))
     assert [field for step in (TANK, SITE, ANCHORS, COURSE) for field in step.fields] \
         == list(doc.FIELD_RANGES)
-    for sheet in (EMPTY, EXAMPLE, EXAMPLE._replace(count=4), EXAMPLE._replace(tank=None)):
-        assert left_by_a_run(sheet) == left_by_description(sheet)
+    unstated, self_anchored = (EXAMPLE._replace(anchors=one) for one in (None, SELF_ANCHORED))
+    for sheet, left in ((EMPTY, True), (EXAMPLE, True), (unstated, True), (self_anchored, True),
+                        (EXAMPLE._replace(count=4), False), (EXAMPLE._replace(tank=None), False),
+                        (unstated._replace(tank=None), False),
+                        (EMPTY._replace(anchors=SELF_ANCHORED), False)):
+        assert left_by_a_run(sheet) == left_by_description(sheet) == left
+
+    # anchors never stated, and N = 0
+    assert write(unstated, lent) == ((38, 0), 0, lent)
+    assert write(unstated, lent[:119]) == ((38, 0), 0, lent[:119])
+    refusal, stated = take_step(unstated, ANCHORS, SELF_ANCHORED)
+    assert refusal is None and stated == self_anchored != unstated
+    refusal, number, buffer = write(self_anchored, lent)
+    assert refusal is None and read(buffer[:number]) == (None, self_anchored)

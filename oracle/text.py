@@ -104,7 +104,8 @@ def self_test():
     content = model.sheet_as_bytes(model.EXAMPLE)
     assert marked_text(content) == EXAMPLE_TEXT
     standing = model.EXAMPLE._replace(anchors=model.SELF_ANCHORED)
-    assert marked_text(model.sheet_as_bytes(standing)) == SELF_TEXT
+    assert judged_text(standing) == marked_text(model.sheet_as_bytes(standing)) == SELF_TEXT
+    assert judged_text(model.EXAMPLE._replace(anchors=None)) == b"refused 38\n"
     assert refusal_text((11, 0)) == marked_text(b"") == b"refused 11\n"
     assert refusal_text((16, 7)) == b"refused 16 7\n"
     assert marked_text(content[:27] + bytes(4) + content[31:]) == b"refused 16 7\n"    # V is 0

@@ -1,5 +1,5 @@
 // What judging and writing ask of a sheet first, and the entries of a complete one (document 01, "Filling
-// in" and "Order").
+// in" and "Order"; document 02, S-1).
 ghost use mathlib.Core.Path.{_≡_};
 ghost use lib.Dec.{T};
 ghost use Rattle.entries.specs.Sheet.{held, heightOf};
@@ -7,6 +7,7 @@ ghost use Rattle.sheet.specs.Steps.{reachable};
 ghost use Rattle.sheet.specs.Complete.{noEntries, completedOf, completedCode, sheetCode};
 ghost use Rattle.sheet.specs.Reading.{readCompleted, bytesCode};
 use entries::Anchors;
+use entries::AnchorsEntry;
 use entries::Answer;
 use entries::Course;
 use entries::Sheet;
@@ -21,7 +22,7 @@ use sheet::complete::Completeness;
 use sheet::complete::Entries;
 use sheet::reach;
 
-// The entries of this sheet. Refused: 30, 32, 35, 36.
+// The entries of this sheet. Refused: 30, 32, 35, 36, 38.
 pub fn of_sheet(s: Sheet) -> Completed
     ensures { λ r. ⌜ r ≡ completedOf s ⌝ }
     ensures { λ r. ⌜ completedCode r ≡ sheetCode s ⌝ }
@@ -57,7 +58,8 @@ fn without(status: Completeness) -> Completed
     Completed { status, entries }
 }
 
-// The entries of a sheet that steps have left, whose courses have this height. Refused: 32, 35, 36.
+// The entries of a sheet that steps have left, whose courses have this height. Refused: 32, 35, 36,
+// 38.
 fn complete_reachable(s: Sheet, height: u64) -> Completed
     requires { ⌜ T (reachable s) ⌝ }
     requires { ⌜ height ≡ heightOf (held s) ⌝ }
@@ -74,7 +76,10 @@ fn complete_reachable(s: Sheet, height: u64) -> Completed
     let SiteEntry::Filled(site) = site_entry else {
         return without(Completeness::Refused(Refusal::NoSite));
     };
-    let anchors = s.anchors;
+    let anchors_entry = s.anchors;
+    let AnchorsEntry::Filled(anchors) = anchors_entry else {
+        return without(Completeness::Refused(Refusal::AnchorsUnstated));
+    };
     let courses = s.courses;
     let entries = Entries {
         tank,
@@ -98,7 +103,7 @@ fn blank_entries() -> Entries
     Entries {
         tank: Tank::blank(),
         site: Site::blank(),
-        anchors: Anchors::none(),
+        anchors: Anchors::blank(),
         courses,
         count: 0,
         height: 0,

@@ -1,5 +1,5 @@
-// A sheet into bytes (document 01, "Filling in" and "Order"), in a buffer that the caller lends. Where
-// it is refused, no byte of the buffer is touched.
+// A sheet into bytes (document 01, "Filling in" and "Order"; document 02, S-1), in a buffer that the caller lends.
+// Where it is refused, no byte of the buffer is touched.
 ghost use mathlib.Core.Path.{_≡_};
 ghost use lib.ListN.{length};
 ghost use Rattle.sheet.specs.Complete.{Valid};
@@ -13,7 +13,7 @@ use sheet::complete::Entries;
 use sheet::writing::Written;
 
 // Fills the first 60 + 20 × n bytes, which are read as the same sheet, and gives that number. Refused: 30,
-// 32, 35, 36, 19.
+// 32, 35, 36, 38, 19.
 pub fn write(s: Sheet, out: &mut [u8]) -> Written
     ensures { λ r. ⌜ r ≡ written s (now (out .entry)) .answer ⌝ }
     ensures { λ r. ⌜ now (out .exit) ≡ written s (now (out .entry)) .buffer ⌝ }

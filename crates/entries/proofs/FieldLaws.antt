@@ -10,15 +10,18 @@ use native.Mathlib.Omega.{arith}
 use lib.Dec.{T, ltb}
 use borrow.Author.Tests.{not-false, leb-false, ltb-false, ne-eqb}
 use Rattle.fields.specs.Bolt.{inChart}
-use Rattle.fields.specs.Range.{range, within, In}
+use Rattle.fields.specs.Range.{range, between, within, In}
 use Rattle.fields.specs.declared.refusal.Refusal.the-variants.{OutOfRange, BadAnchors}
 use Rattle.fields.proofs.RangeLaws.{in-of-within, in-of-between, within-some}
 use Rattle.entries.specs.Order.{Condition, _when_, firstOf, clear, Figure, outside}
-use Rattle.entries.specs.Sheet.{tankFields, siteFields, anchorFields, courseFields, allowanceTooLarge, badAnchors, tankFlaws, siteFlaws, anchorFlaws, courseFlaws}
+use Rattle.entries.specs.Sheet.{tankFields, siteFields, anchorFields, courseFields, allowanceTooLarge, badAnchors, tankFlaws, siteFlaws, anchorFlaws, courseFlaws, tankOf, siteOf, anchorsOf}
 use Rattle.entries.specs.declared.sheet.Tank.{Tank}
 use Rattle.entries.specs.declared.sheet.Site.{Site}
 use Rattle.entries.specs.declared.sheet.Anchors.{Anchors}
 use Rattle.entries.specs.declared.sheet.Course.{Course}
+use Rattle.entries.specs.declared.sheet.TankEntry as TankEntry
+use Rattle.entries.specs.declared.sheet.SiteEntry as SiteEntry
+use Rattle.entries.specs.declared.sheet.AnchorsEntry as AnchorsEntry
 use Rattle.entries.specs.declared.answer.Answer.the-variants.{Accepted}
 use Rattle.entries.proofs.OrderLaws.{first-cons, first-append, clear-accepted}
 
@@ -127,3 +130,10 @@ anchors-in D a h z =
     neither : (x y : Bool) → (x || y) ≡ false → (x ≡ false) × (y ≡ false)
     neither true y e = absurd (subst T e tt)
     neither false y e = (refl, e)
+
+-- WHAT STANDS WHERE NOTHING WAS STATED HAS A FLAW
+pub blank-flawed : (T (clear (tankFlaws (tankOf TankEntry.the-variants.Blank))) → ⊥)
+    × (T (clear (siteFlaws (siteOf SiteEntry.the-variants.Blank))) → ⊥)
+    × ((D : ℕ) → T (clear (anchorFlaws D (anchorsOf AnchorsEntry.the-variants.Blank))) → ⊥)
+unfolding within between clear tankFlaws siteFlaws anchorFlaws
+blank-flawed = (λ h. h, λ h. h, λ D h. h)

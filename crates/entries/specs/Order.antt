@@ -1,5 +1,5 @@
--- Orders of refusals, as data: document 01, "Order". An order is a list of refusals with their conditions, as document 01 lists them; the
--- answer is the first whose condition applies.
+-- Orders of refusals, as data: document 01, "Order", and the answers of document 02. An order is a list of refusals with their conditions,
+-- as the documents list them; the answer is the first whose condition applies.
 use mathlib.Core.Path.{_≡_}
 use mathlib.Core.Bool.{Bool, true, false, not, cond}
 use mathlib.Core.List.{List, [], _∷_}
@@ -80,7 +80,7 @@ abbrev pub firstCode : List Condition → Code
 firstCode [] = plain 0
 firstCode (c ∷ cs) = cond (c .applies) (codeOf (c .refusal)) (firstCode cs)
 
--- an order as document 01 lists it: numbers, and 16 with its fields
+-- an order as the documents list it: numbers, and 16 with its fields
 abbrev pub codes : List Condition → List Code
 codes [] = []
 codes (c ∷ cs) = codeOf (c .refusal) ∷ codes cs

@@ -1,5 +1,5 @@
 -- What a sheet holds, and what is wrong with a step's figures: document 01, "Fields and their ranges", "Filling in" and "Refusals that
--- come from the input".
+-- come from the input"; document 02, S-1.
 use mathlib.Core.Bool.{Bool, not, cond, _||_}
 use mathlib.Core.List.{List, [], _∷_, _++_}
 use Prim.Native.Nat.{ℕ, _+_}
@@ -14,6 +14,7 @@ use Rattle.entries.specs.declared.sheet.Anchors.{Anchors}
 use Rattle.entries.specs.declared.sheet.Course.{Course}
 use Rattle.entries.specs.declared.sheet.TankEntry as TankEntry
 use Rattle.entries.specs.declared.sheet.SiteEntry as SiteEntry
+use Rattle.entries.specs.declared.sheet.AnchorsEntry as AnchorsEntry
 use Rattle.entries.specs.declared.sheet.Sheet.{Sheet}
 
 -- The figures of each step with their fields: 1 to 6, 7 to 11, 12 to 14, 15 to 19.
@@ -44,10 +45,12 @@ anchorFigures a = values (anchorFields a)
 abbrev pub courseFigures : Course → List ℕ
 courseFigures c = values (courseFields c)
 
--- The empty sheet. "Anchors never stated means N = 0"; a slot that no course has been stated for holds `blankCourse`.
+-- N = 0 stated: a tank without anchors
 abbrev pub noAnchors : Anchors
 noAnchors = record { number = 0; circle = 0; size = 0 }
 
+-- The empty sheet: nothing is stated, and a slot that no course has been stated for holds `blankCourse`. Document 02, S-1: "Unstated anchors
+-- no longer count as N = 0, and the two are no longer the same sheet."
 abbrev pub blankCourse : Course
 blankCourse = record { width = 0; plate = 0; allowance = 0; stress = 0; efficiency = 0 }
 
@@ -56,7 +59,7 @@ emptySheet =
     record {
       tank = TankEntry.the-variants.Blank;
       site = SiteEntry.the-variants.Blank;
-      anchors = noAnchors;
+      anchors = AnchorsEntry.the-variants.Blank;
       courses = replicate 12 blankCourse;
       count = 0;
     }
@@ -69,7 +72,8 @@ abbrev pub heightOf : List Course → ℕ
 heightOf [] = 0
 heightOf (c ∷ cs) = c .width + heightOf cs
 
--- the tank and the site held; where there is none, zeros, which stand in the entries beside a refusal and are looked at nowhere else
+-- The tank, the site and the anchors held. Where they are not stated, figures that no step accepts (`blank-flawed`), so that what was left
+-- out cannot pass for what was stated: zeros, and one anchor, since N = 0 is a statement. They stand in the entries beside a refusal.
 abbrev pub tankOf : TankEntry.TankEntry → Tank
 tankOf TankEntry.the-variants.Blank = record { diameter = 0; level = 0; weight = 0; plate = 0; allowance = 0; fy = 0 }
 tankOf (TankEntry.the-variants.Filled t) = t
@@ -77,6 +81,10 @@ tankOf (TankEntry.the-variants.Filled t) = t
 abbrev pub siteOf : SiteEntry.SiteEntry → Site
 siteOf SiteEntry.the-variants.Blank = record { speed = 0; exposure = 0; importance = 0; vertical = 0; moment = 0 }
 siteOf (SiteEntry.the-variants.Filled x) = x
+
+abbrev pub anchorsOf : AnchorsEntry.AnchorsEntry → Anchors
+anchorsOf AnchorsEntry.the-variants.Blank = record { number = 1; circle = 0; size = 0 }
+anchorsOf (AnchorsEntry.the-variants.Filled a) = a
 
 -- 17: "allowance not less than plate (bottom or course)", so plate at most allowance
 abbrev pub allowanceTooLarge : ℕ → ℕ → Condition

@@ -6,6 +6,7 @@ mod sheet;
 
 pub use answer::Answer;
 pub use sheet::Anchors;
+pub use sheet::AnchorsEntry;
 pub use sheet::Course;
 pub use sheet::MOST_COURSES;
 pub use sheet::MOST_HEIGHT;

@@ -1,7 +1,7 @@
 // A sheet and what it holds (document 01, "Filling in"). All of it is public data: whoever hands in a sheet
 // may have built it by hand, which is what refusal 30 is for.
 ghost use mathlib.Core.Path.{_≡_};
-ghost use Rattle.entries.specs.Sheet.{blankCourse, noAnchors, emptySheet, tankOf, siteOf, tankFigures, siteFigures, anchorFigures, courseFigures};
+ghost use Rattle.entries.specs.Sheet.{blankCourse, emptySheet, tankOf, siteOf, anchorsOf, tankFigures, siteFigures, anchorFigures, courseFigures};
 
 // The slots for courses, and the greatest shell height Hs.
 pub const MOST_COURSES: usize = 12;
@@ -32,7 +32,7 @@ pub struct Site {
     pub moment: u32,
 }
 
-// Fields 12 to 14; no anchors, stated or not, is three zeros.
+// Fields 12 to 14.
 pub struct Anchors {
     pub number: u32,
     // The diameter of the bolt circle, and the size of a bolt.
@@ -60,11 +60,17 @@ pub enum SiteEntry {
     Filled(Site),
 }
 
+// Blank is not the same as N = 0 stated (document 02, S-1).
+pub enum AnchorsEntry {
+    Blank,
+    Filled(Anchors),
+}
+
 // The courses from the bottom up, `count` of them; the slots past them are blank.
 pub struct Sheet {
     pub tank: TankEntry,
     pub site: SiteEntry,
-    pub anchors: Anchors,
+    pub anchors: AnchorsEntry,
     pub courses: [Course; 12],
     pub count: usize,
 }
@@ -153,11 +159,12 @@ impl Site {
 }
 
 impl Anchors {
-    pub fn none() -> Anchors
-        ensures { λ r. ⌜ r ≡ noAnchors ⌝ }
+    // Beside a refusal.
+    pub fn blank() -> Anchors
+        ensures { λ r. ⌜ r ≡ anchorsOf AnchorsEntry.Blank ⌝ }
     {
         Anchors {
-            number: 0,
+            number: 1,
             circle: 0,
             size: 0,
         }
@@ -176,11 +183,10 @@ impl Sheet {
     {
         let blank = Course::blank();
         let courses = [blank; 12];
-        let anchors = Anchors::none();
         Sheet {
             tank: TankEntry::Blank,
             site: SiteEntry::Blank,
-            anchors,
+            anchors: AnchorsEntry::Blank,
             courses,
             count: 0,
         }

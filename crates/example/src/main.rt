@@ -17,8 +17,8 @@ fn main() {
     io::write_all(STDOUT_FILENO, printed.text(&out));
 }
 
-// No step is refused here. With other figures look at each reply's answer: after refused anchors, say,
-// the tank would be judged as self-anchored.
+// No step is refused here. With other figures look at each reply's answer: after a refused step the sheet is as
+// it was.
 fn example() -> Sheet {
     let tank = Tank {
         diameter: 14400,

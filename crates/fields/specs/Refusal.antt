@@ -1,9 +1,9 @@
--- What each refusal is by code: document 01, "Refusals that come from the input" and "from the state". What is promised of a
--- refusal is promised through `codeOf`.
+-- What each refusal is by code: document 01, "Refusals that come from the input" and "from the state", and the answers of document 02's
+-- requests. What is promised of a refusal is promised through `codeOf`.
 use Prim.Native.Nat.{ℕ}
 use Rattle.fields.specs.declared.refusal.Code.{Code}
 use Rattle.fields.specs.declared.refusal.Refusal.{Refusal}
-use Rattle.fields.specs.declared.refusal.Refusal.the-variants.{TooFewBytes, TooManyBytes, BadLength, BadVersion, BadCount, OutOfRange, AllowanceNotBelowPlate, BadAnchors, BufferTooShort, Unreachable, TankStated, NoTank, CoursesFull, ShellTooHigh, NoCourse, NoSite, WaterAboveShell}
+use Rattle.fields.specs.declared.refusal.Refusal.the-variants.{TooFewBytes, TooManyBytes, BadLength, BadVersion, BadCount, OutOfRange, AllowanceNotBelowPlate, BadAnchors, BufferTooShort, Unreachable, TankStated, NoTank, CoursesFull, ShellTooHigh, NoCourse, NoSite, WaterAboveShell, AnchorsUnstated}
 
 -- the number alone
 abbrev pub plain : ℕ → Code
@@ -27,3 +27,4 @@ codeOf ShellTooHigh = plain 34
 codeOf NoCourse = plain 35
 codeOf NoSite = plain 36
 codeOf WaterAboveShell = plain 37
+codeOf AnchorsUnstated = plain 38

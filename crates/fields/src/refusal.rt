@@ -1,4 +1,4 @@
-// The refusals (document 01, "Refusals that come from the input" and "from the state").
+// The refusals (document 01, "Refusals that come from the input" and "from the state"; 38: document 02, S-1).
 ghost use mathlib.Core.Path.{_≡_};
 ghost use Rattle.fields.specs.Refusal.{codeOf, plain};
 
@@ -21,9 +21,10 @@ pub enum Refusal {
     NoCourse,
     NoSite,
     WaterAboveShell,
+    AnchorsUnstated,
 }
 
-// A refusal as document 01 has it: its number, and the field that it gives, or 0 where it gives none.
+// A refusal as the documents have it: its number, and the field that it gives, or 0 where it gives none.
 pub struct Code {
     pub number: u32,
     pub field: u32,
@@ -58,6 +59,7 @@ impl Refusal {
             Refusal::NoCourse => plain(35),
             Refusal::NoSite => plain(36),
             Refusal::WaterAboveShell => plain(37),
+            Refusal::AnchorsUnstated => plain(38),
         }
     }
 }

@@ -1,4 +1,4 @@
-// The question: is this tank sound? (Document 01, "Filling in" and "Order".)
+// The question: is this tank sound? (Document 01, "Filling in" and "Order"; document 02, S-1.)
 ghost use mathlib.Core.Path.{_≡_};
 ghost use Prim.Native.Nat.{_≤_};
 ghost use lib.ListN.{take};
@@ -22,7 +22,7 @@ use sheet::complete::Completed;
 use sheet::complete::Completeness;
 use sheet::complete::Entries;
 
-// The report on a sheet, whose word exact fractions bear out. Refused: 30, 32, 35, 36, 37.
+// The report on a sheet, whose word exact fractions bear out. Refused: 30, 32, 35, 36, 38, 37.
 pub fn judge(s: Sheet) -> Judgement
     ensures { λ r. ⌜ r ≡ judged s ⌝ }
     ensures { λ r. ⌜ answerCode (r .answer) ≡ judgeCode s ⌝ }

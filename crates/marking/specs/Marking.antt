@@ -9,6 +9,6 @@ use Rattle.reports.specs.declared.report.Judgement.{Judgement}
 unfoldable pub marked : List ℕ → Judgement
 marked b = unlessRefused (readIn b .answer) (judged (readIn b .sheet))
 
--- the answer in document 01's numbers
+-- the answer in the documents' numbers
 unfoldable pub markCode : List ℕ → Code
 markCode b = unlessCode (readCode b) (judgeCode (readIn b .sheet))

@@ -8,11 +8,11 @@ use lib.Dec.{leb, eqb}
 use lib.ListN.{length, take, drop}
 use Rattle.lists.specs.Each.{each}
 use Rattle.entries.specs.Order.{clear}
-use Rattle.entries.specs.Sheet.{heightOf, tankFlaws, siteFlaws, anchorFlaws, courseFlaws, anchorFigures, courseFigures}
-use Rattle.entries.specs.declared.sheet.Anchors.{Anchors}
+use Rattle.entries.specs.Sheet.{heightOf, tankFlaws, siteFlaws, anchorFlaws, courseFlaws, courseFigures}
 use Rattle.entries.specs.declared.sheet.Course.{Course}
 use Rattle.entries.specs.declared.sheet.TankEntry as TankEntry
 use Rattle.entries.specs.declared.sheet.SiteEntry as SiteEntry
+use Rattle.entries.specs.declared.sheet.AnchorsEntry as AnchorsEntry
 
 abbrev pub blank : List ℕ → Bool
 blank xs = each (λ x. eqb x 0) xs
@@ -24,6 +24,15 @@ siteBlank (SiteEntry.the-variants.Filled x) = false
 abbrev pub siteClear : SiteEntry.SiteEntry → Bool
 siteClear SiteEntry.the-variants.Blank = true
 siteClear (SiteEntry.the-variants.Filled x) = clear (siteFlaws x)
+
+abbrev pub anchorsBlank : AnchorsEntry.AnchorsEntry → Bool
+anchorsBlank AnchorsEntry.the-variants.Blank = true
+anchorsBlank (AnchorsEntry.the-variants.Filled a) = false
+
+-- on a tank of diameter D
+abbrev pub anchorsClear : ℕ → AnchorsEntry.AnchorsEntry → Bool
+anchorsClear D AnchorsEntry.the-variants.Blank = true
+anchorsClear D (AnchorsEntry.the-variants.Filled a) = clear (anchorFlaws D a)
 
 unfoldable pub coursesClear : List Course → Bool
 coursesClear cs = each (λ c. clear (courseFlaws c)) cs
@@ -40,6 +49,6 @@ slotsReachable cs n =
     && leb (heightOf (take n cs)) 76800
     && coursesBlank (drop n cs)
 
-abbrev pub partsReachable : TankEntry.TankEntry → SiteEntry.SiteEntry → Anchors → ℕ → Bool
-partsReachable TankEntry.the-variants.Blank x a n = siteBlank x && blank (anchorFigures a) && eqb n 0
-partsReachable (TankEntry.the-variants.Filled t) x a n = clear (tankFlaws t) && siteClear x && clear (anchorFlaws (t .diameter) a)
+abbrev pub partsReachable : TankEntry.TankEntry → SiteEntry.SiteEntry → AnchorsEntry.AnchorsEntry → ℕ → Bool
+partsReachable TankEntry.the-variants.Blank x a n = siteBlank x && anchorsBlank a && eqb n 0
+partsReachable (TankEntry.the-variants.Filled t) x a n = clear (tankFlaws t) && siteClear x && anchorsClear (t .diameter) a

@@ -71,7 +71,7 @@ fn courses_blank(courses: [Course; 12], from: usize) -> bool
     true
 }
 
-pub fn is_blank(figures: &[u32]) -> bool
+fn is_blank(figures: &[u32]) -> bool
     ensures { λ r. ⌜ r ≡ blank (now (figures .entry)) ⌝ }
 {
     let mut i: usize = 0;

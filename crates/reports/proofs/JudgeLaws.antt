@@ -63,9 +63,9 @@ judged-completed s =
     go (Status.the-variants.Refused r) = refl
     go Status.the-variants.Complete = refl
 
--- ---- THE ORDER IN DOCUMENT 01'S NUMBERS, AND WHICH REFUSAL IS ANSWERED WHEN
+-- ---- THE ORDER IN THE DOCUMENTS' NUMBERS, AND WHICH REFUSAL IS ANSWERED WHEN
 
-pub judge-order : (s : Sheet) → codes (judgeOrder s) ≡ plain 30 ∷ plain 32 ∷ plain 35 ∷ plain 36 ∷ plain 37 ∷ []
+pub judge-order : (s : Sheet) → codes (judgeOrder s) ≡ plain 30 ∷ plain 32 ∷ plain 35 ∷ plain 36 ∷ plain 38 ∷ plain 37 ∷ []
 judge-order s = refl
 
 answer-of : (a : Answer) (j : Judgement) → j .answer ≡ Accepted → unlessRefused a j .answer ≡ a

@@ -1,5 +1,5 @@
 -- The cases that document 01 marks ◆: "The example tank" with the figures changed that the case names, and what its
--- report then says.
+-- report then says. And the same tank with its anchors left out (document 02, S-1).
 use mathlib.Core.List.{List, [], _∷_}
 use Prim.Native.Nat.{ℕ, _-_}
 use lib.IntN.{ℤ, pos, negℤ}
@@ -15,6 +15,7 @@ use Rattle.entries.specs.declared.sheet.Anchors.{Anchors}
 use Rattle.entries.specs.declared.sheet.Course.{Course}
 use Rattle.entries.specs.declared.sheet.TankEntry as TankEntry
 use Rattle.entries.specs.declared.sheet.SiteEntry as SiteEntry
+use Rattle.entries.specs.declared.sheet.AnchorsEntry as AnchorsEntry
 use Rattle.entries.specs.declared.sheet.Sheet.{Sheet}
 use Rattle.reports.specs.Report.{blankLine}
 use Rattle.reports.specs.Judging.{judged}
@@ -32,7 +33,7 @@ exampleWith v Ms a =
     record {
       tank = TankEntry.the-variants.Filled (record { diameter = 14400; level = 28800; weight = 11000; plate = 250; allowance = 0; fy = 36000 });
       site = SiteEntry.the-variants.Filled (record { speed = v; exposure = 109; importance = 115; vertical = 27; moment = Ms });
-      anchors = a;
+      anchors = AnchorsEntry.the-variants.Filled a;
       courses = c ∷ c ∷ c ∷ replicate 9 blankCourse;
       count = 3;
     }
@@ -42,6 +43,11 @@ sixOn B = record { number = 6; circle = B; size = 8 }
 
 abbrev pub example : Sheet
 example = exampleWith 105 30000 (sixOn 14800)
+
+-- and with its anchors left out
+abbrev pub exampleUnstated : Sheet
+exampleUnstated =
+    record { tank = example .tank; site = example .site; anchors = AnchorsEntry.the-variants.Blank; courses = example .courses; count = example .count }
 
 -- What a report says at one place: a number, or a word; of the other way of standing there is nothing to say.
 pub data Excerpt : Type 0 where

@@ -1,4 +1,4 @@
--- Judging a sheet: document 01, "Order" and "Refusals that come from the state".
+-- Judging a sheet: document 01, "Order" and "Refusals that come from the state"; document 02, S-1.
 use mathlib.Core.List.{List, [], _∷_}
 use mathlib.Core.Bool.{cond}
 use lib.Dec.{ltb, eqb}
@@ -20,7 +20,7 @@ use Rattle.reports.specs.declared.report.Judgement.{Judgement}
 abbrev pub waterAbove : Entries → Condition
 waterAbove e = WaterAboveShell when ltb (e .height) (e .tank .level)
 
--- Judge: 30, 32, 35, 36, 37.
+-- Judge: 30, 32, 35, 36, 38, 37.
 abbrev pub judgeOrder : Sheet → List Condition
 judgeOrder s = completeOrder s [] (waterAbove (entriesOf s) ∷ [])
 
@@ -50,7 +50,7 @@ byStatus Status.the-variants.Complete j = j
 unfoldable pub judgedCompleted : Completed → Judgement
 judgedCompleted c = byStatus (c .status) (judgedEntries (c .entries))
 
--- the answer in document 01's numbers: of what is asked first, and of a sheet
+-- the answer in the documents' numbers: of what is asked first, and of a sheet
 unfoldable pub completedJudgeCode : Completed → Code
 completedJudgeCode c = cond (eqb (statusCode (c .status) .number) 0) (firstCode (waterAbove (c .entries) ∷ [])) (statusCode (c .status))
 

@@ -11,6 +11,7 @@ use Rattle.entries.specs.declared.sheet.Anchors.{Anchors}
 use Rattle.entries.specs.declared.sheet.Course.{Course}
 use Rattle.entries.specs.declared.sheet.TankEntry as TankEntry
 use Rattle.entries.specs.declared.sheet.SiteEntry as SiteEntry
+use Rattle.entries.specs.declared.sheet.AnchorsEntry as AnchorsEntry
 use Rattle.entries.specs.declared.sheet.Sheet.{Sheet}
 use Rattle.sheet.specs.Complete.{entriesOf, coursesOf}
 use Rattle.sheet.specs.declared.complete.Entries.{Entries}
@@ -29,7 +30,7 @@ secondWith W c t Ms a =
     record {
       tank = TankEntry.the-variants.Filled (record { diameter = 60001; level = 30000; weight = W; plate = 300; allowance = c; fy = 40000 });
       site = SiteEntry.the-variants.Filled (record { speed = 90; exposure = 100; importance = 100; vertical = 250; moment = Ms });
-      anchors = a;
+      anchors = AnchorsEntry.the-variants.Filled a;
       courses =
           record { width = 14400; plate = t; allowance = 20; stress = 20000; efficiency = 70 }
           ∷ record { width = 14400; plate = 260; allowance = 10; stress = 18000; efficiency = 85 }
@@ -152,7 +153,7 @@ selfAnchored W Ms =
     record {
       tank = TankEntry.the-variants.Filled (record { diameter = 14400; level = 28800; weight = W; plate = 250; allowance = 0; fy = 36000 });
       site = exampleWith 105 Ms noAnchors .site;
-      anchors = noAnchors;
+      anchors = AnchorsEntry.the-variants.Filled noAnchors;
       courses = exampleWith 105 Ms noAnchors .courses;
       count = 3;
     }
@@ -169,7 +170,7 @@ slender W =
     record {
       tank = TankEntry.the-variants.Filled (record { diameter = 12000; level = 1200; weight = W; plate = 250; allowance = 0; fy = 36000 });
       site = SiteEntry.the-variants.Filled (record { speed = 150; exposure = 150; importance = 125; vertical = 0; moment = 0 });
-      anchors = record { number = 6; circle = 12000; size = 16 };
+      anchors = AnchorsEntry.the-variants.Filled (record { number = 6; circle = 12000; size = 16 });
       courses = replicate 6 c ++ replicate 6 blankCourse;
       count = 6;
     }

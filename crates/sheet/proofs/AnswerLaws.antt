@@ -1,4 +1,4 @@
--- What the answers say: each order in document 01's numbers; which refusal a step, reading and writing answer, and when; refusal 30 by the
+-- What the answers say: each order in the documents' numbers; which refusal a step, reading and writing answer, and when; refusal 30 by the
 -- runs of steps; the sheets that come back.
 -- Assumes nothing.
 use mathlib.Core.Path.{_≡_, refl, sym, ap, _∙_, subst}
@@ -15,11 +15,11 @@ use Rattle.fields.specs.declared.refusal.Code.{Code}
 use Rattle.fields.specs.declared.refusal.Refusal.{Refusal}
 use Rattle.fields.specs.declared.refusal.Refusal.the-variants.{Unreachable}
 use Rattle.fields.proofs.RefusalLaws.{never-zero}
-use Rattle.entries.specs.Order.{Condition, _when_, firstOf, First, answerCode, firstCode, codes, sixteen}
+use Rattle.entries.specs.Order.{Condition, firstOf, First, answerCode, firstCode, codes, sixteen}
 use Rattle.entries.specs.Sheet.{emptySheet, tankFlaws, siteFlaws, anchorFlaws, courseFlaws}
 use Rattle.sheet.specs.Steps.{Step, stateTank, stateSite, stateAnchors, addCourse, orderOf, applied, LeftByRun, reachable, unreachable, stated, unless, inTurn}
-use Rattle.sheet.specs.Complete.{incomplete, completeOrder, entriesOf}
-use Rattle.sheet.specs.Writing.{sizeOf, noRoom, writeOrder, WriteReply, writeReply, written, writeCode, writtenCode}
+use Rattle.sheet.specs.Complete.{incomplete, entriesOf}
+use Rattle.sheet.specs.Writing.{sizeOf, noRoom, writeOrder, writeReply, written, writeCode, writtenCode}
 use Rattle.sheet.specs.Reading.{stepsIn, readIn, withHeight, unlessCode, turnCode, readCode}
 use Rattle.entries.specs.declared.sheet.Tank.{Tank}
 use Rattle.entries.specs.declared.sheet.Site.{Site}
@@ -41,7 +41,7 @@ use Rattle.sheet.proofs.StepLaws.{stated-applied}
 use Rattle.sheet.proofs.ReachLaws.{reply-reachable, empty-reachable}
 use Rattle.sheet.proofs.RebuildLaws.{left-exactly}
 
--- ---- THE SIX ORDERS IN DOCUMENT 01'S NUMBERS
+-- ---- THE SIX ORDERS IN THE DOCUMENTS' NUMBERS
 
 module _ (s : Sheet) where
   pub tank-order : (t : Tank) → codes (unreachable s ∷ orderOf s (stateTank t))
@@ -64,7 +64,7 @@ module _ (s : Sheet) where
   unfolding courseFlaws
   course-order c = refl
 
-  pub write-order : (room : ℕ) → codes (writeOrder s room) ≡ plain 30 ∷ plain 32 ∷ plain 35 ∷ plain 36 ∷ plain 19 ∷ []
+  pub write-order : (room : ℕ) → codes (writeOrder s room) ≡ plain 30 ∷ plain 32 ∷ plain 35 ∷ plain 36 ∷ plain 38 ∷ plain 19 ∷ []
   write-order room = refl
 
 pub read-order : (b : List ℕ) → codes (readOrder version1 b) ≡ plain 11 ∷ plain 13 ∷ plain 11 ∷ plain 12 ∷ plain 14 ∷ plain 15 ∷ []

@@ -3,35 +3,36 @@
 -- Assumes nothing.
 use mathlib.Core.Path.{_≡_, refl, sym, ap, _∙_, subst}
 use mathlib.Core.Bool.{Bool, true, false, not, cond}
-use mathlib.Core.List.{List, [], _∷_, _++_, append-nil}
-use Prim.Native.Nat.{ℕ, _≤_}
+use mathlib.Core.List.{List, [], _∷_, _++_}
+use Prim.Native.Nat.{ℕ}
 use native.Mathlib.Omega.{arith}
 use lib.Dec.{T, eqb}
 use lib.ListN.{length}
 use lib.Seq.{length-take-le}
 use borrow.Author.Tests.{eq-eqb, ne-eqb, eqb-false}
-use Rattle.fields.specs.Refusal.{plain}
 use Rattle.fields.specs.declared.refusal.Code.{Code}
-use Rattle.fields.specs.declared.refusal.Refusal.{Refusal}
-use Rattle.fields.specs.declared.refusal.Refusal.the-variants.{Unreachable, NoTank, NoCourse, NoSite}
+use Rattle.fields.specs.declared.refusal.Refusal.the-variants.{Unreachable, NoTank, NoCourse, NoSite, AnchorsUnstated}
 use Rattle.fields.proofs.RefusalLaws.{never-zero}
-use Rattle.entries.specs.Order.{Condition, _when_, firstOf, andThen, answerCode, firstCode}
-use Rattle.entries.specs.Sheet.{held, heightOf, tankOf, siteOf}
+use Rattle.entries.specs.Order.{Condition, _when_, firstOf, andThen, clear, answerCode, firstCode}
+use Rattle.entries.specs.Sheet.{held, heightOf, tankOf, siteOf, anchorsOf, tankFlaws, siteFlaws, anchorFlaws}
 use Rattle.entries.specs.declared.sheet.Tank.{Tank}
 use Rattle.entries.specs.declared.sheet.Site.{Site}
+use Rattle.entries.specs.declared.sheet.Anchors.{Anchors}
 use Rattle.entries.specs.declared.sheet.TankEntry as TankEntry
 use Rattle.entries.specs.declared.sheet.SiteEntry as SiteEntry
+use Rattle.entries.specs.declared.sheet.AnchorsEntry as AnchorsEntry
 use Rattle.entries.specs.declared.sheet.Sheet.{Sheet}
 use Rattle.entries.specs.declared.answer.Answer.{Answer}
 use Rattle.entries.specs.declared.answer.Answer.the-variants.{Accepted, Refused}
+use Rattle.entries.proofs.FieldLaws.{blank-flawed}
 use Rattle.entries.proofs.OrderLaws.{first-cons, first-then, first-code}
-use Rattle.parts.specs.Parts.{siteBlank, siteClear}
-use Rattle.sheet.specs.Steps.{tankBlank, reachable, unreachable}
-use Rattle.sheet.specs.Complete.{incomplete, completeOrder, entriesOf, coursesOf, noEntries, statusAs, statusOf, completedAs, completedOf, statusCode, completedCode, codeWith, sheetCode, answerAs, Valid}
+use Rattle.parts.specs.Parts.{siteBlank, siteClear, anchorsBlank, anchorsClear}
+use Rattle.sheet.specs.Steps.{tankBlank, reachable}
+use Rattle.sheet.specs.Complete.{incomplete, completeOrder, entriesOf, coursesOf, noEntries, statusAs, statusOf, completedAs, completedOf, completedCode, codeWith, sheetCode, answerAs, Valid}
 use Rattle.sheet.specs.declared.complete.Entries.{Entries}
 use Rattle.sheet.specs.declared.complete.Completeness as Status
 use Rattle.sheet.specs.declared.complete.Completed.{Completed}
-use Rattle.sheet.proofs.ReachLaws.{Held, reach-slots, parts-held, tank-entry-held, Placed, site-entry-placed}
+use Rattle.sheet.proofs.ReachLaws.{reach-slots, parts-held, tank-held, site-held, anchors-held}
 
 -- ---- what the answer comes to
 
@@ -57,18 +58,24 @@ module _ (s : Sheet) where
         unfolding completedOf statusOf
         no-site x = rw (r, t, ne-eqb _ _ n, x)
 
-        pub complete-status : (y : Site) → s .site ≡ SiteEntry.the-variants.Filled y → statusOf s ≡ Status.the-variants.Complete
-        unfolding statusOf
-        complete-status y x = rw (r, t, ne-eqb _ _ n, x)
+        module _ (y : Site) (x : s .site ≡ SiteEntry.the-variants.Filled y) where
+          pub anchors-unstated : s .anchors ≡ AnchorsEntry.the-variants.Blank
+              → completedOf s ≡ record { status = Status.the-variants.Refused AnchorsUnstated; entries = noEntries }
+          unfolding completedOf statusOf
+          anchors-unstated a = rw (r, t, ne-eqb _ _ n, x, a)
 
-        pub all-held : (y : Site) → s .site ≡ SiteEntry.the-variants.Filled y → (h : ℕ) → h ≡ heightOf (held s)
-            → completedOf s
-            ≡ record {
-              status = Status.the-variants.Complete;
-              entries = record { tank = d; site = y; anchors = s .anchors; courses = s .courses; count = s .count; height = h };
-            }
-        unfolding completedOf statusOf
-        all-held y x h e = rw (r, t, ne-eqb _ _ n, x, e)
+          pub complete-status : (b : Anchors) → s .anchors ≡ AnchorsEntry.the-variants.Filled b → statusOf s ≡ Status.the-variants.Complete
+          unfolding statusOf
+          complete-status b a = rw (r, t, ne-eqb _ _ n, x, a)
+
+          pub all-held : (b : Anchors) → s .anchors ≡ AnchorsEntry.the-variants.Filled b → (h : ℕ) → h ≡ heightOf (held s)
+              → completedOf s
+              ≡ record {
+                status = Status.the-variants.Complete;
+                entries = record { tank = d; site = y; anchors = b; courses = s .courses; count = s .count; height = h };
+              }
+          unfolding completedOf statusOf
+          all-held b a h e = rw (r, t, ne-eqb _ _ n, x, a, e)
 
 -- the entries, by the answer
 pub completed-is : (s : Sheet) {t : Status.Completeness} → statusOf s ≡ t → completedOf s ≡ completedAs t (entriesOf s)
@@ -84,7 +91,7 @@ completed-status s = go (statusOf s)
     go (Status.the-variants.Refused r) = refl
     go Status.the-variants.Complete = refl
 
--- ---- an order that goes on from there: 30, the conditions between, 32, 35, 36, and those after
+-- ---- an order that goes on from there: 30, the conditions between, 32, 35, 36, 38, and those after
 
 pub complete-first : (s : Sheet) (between after : List Condition)
     → firstOf (completeOrder s between after) ≡ answerAs (statusOf s) (firstOf between) (firstOf after)
@@ -109,6 +116,7 @@ pub record CompleteSheet (s : Sheet) : Type 0 where
   pub reach : T (reachable s)
   pub tank : s .tank ≡ TankEntry.the-variants.Filled (tankOf (s .tank))
   pub site : s .site ≡ SiteEntry.the-variants.Filled (siteOf (s .site))
+  pub anchors : s .anchors ≡ AnchorsEntry.the-variants.Filled (anchorsOf (s .anchors))
   pub course : s .count ≡ 0 → ⊥
 
 module _ (s : Sheet) (o : statusOf s ≡ Status.the-variants.Complete) where
@@ -124,27 +132,32 @@ module _ (s : Sheet) (o : statusOf s ≡ Status.the-variants.Complete) where
 
   pub complete-sheet : CompleteSheet s
   complete-sheet =
-      let a = first-cons (NoTank when tankBlank (s .tank)) ((NoCourse when eqb (s .count) 0) ∷ (NoSite when siteBlank (s .site)) ∷ []) (passed .1) in
-      let b = first-cons (NoCourse when eqb (s .count) 0) ((NoSite when siteBlank (s .site)) ∷ []) (a .1) in
-      let c = first-cons (NoSite when siteBlank (s .site)) [] (b .1) in
-      let t = tank-entry-held (s .tank) (a .0) in
-      let x = site-entry-placed (s .site) (c .0) in
+      let unstated = AnchorsUnstated when anchorsBlank (s .anchors) in
+      let noSite = NoSite when siteBlank (s .site) in
+      let noCourse = NoCourse when eqb (s .count) 0 in
+      let a = first-cons (NoTank when tankBlank (s .tank)) (noCourse ∷ noSite ∷ unstated ∷ []) (passed .1) in
+      let b = first-cons noCourse (noSite ∷ unstated ∷ []) (a .1) in
+      let c = first-cons noSite (unstated ∷ []) (b .1) in
+      let t = tank-held (s .tank) (a .0) in
+      let x = site-held (s .site) (c .0) in
+      let y = anchors-held (s .anchors) (first-cons unstated [] (c .1) .0) in
       record {
         reach = passed .0;
         tank = t .is ∙ ap TankEntry.the-variants.Filled (ap tankOf (sym (t .is)));
         site = x .is ∙ ap SiteEntry.the-variants.Filled (ap siteOf (sym (x .is)));
+        anchors = y .is ∙ ap AnchorsEntry.the-variants.Filled (ap anchorsOf (sym (y .is)));
         course = eqb-false (s .count) 0 (b .0);
       }
 
   pub valid : Valid (entriesOf s)
   valid =
       let w = complete-sheet in
-      let p = parts-held s (w .reach) (record { tank = tankOf (s .tank); is = w .tank }) in
+      let p = parts-held s (w .reach) (record { entry = tankOf (s .tank); is = w .tank }) in
       let k = reach-slots s (w .reach) in
       record {
         tank = p .0;
         site = subst (λ (y : SiteEntry.SiteEntry). T (siteClear y)) (w .site) (p .1);
-        anchors = p .2;
+        anchors = subst (λ (y : AnchorsEntry.AnchorsEntry). T (anchorsClear (tankOf (s .tank) .diameter) y)) (w .anchors) (p .2);
         courses = k .clear;
         some = omega (arith, w .course);
         few = k .few;
@@ -152,6 +165,22 @@ module _ (s : Sheet) (o : statusOf s ≡ Status.the-variants.Complete) where
         high = refl;
         low = k .low;
       }
+
+-- and no other sheet has such entries: what stands where nothing was stated has a flaw
+pub valid-complete : (s : Sheet) → reachable s ≡ true → Valid (entriesOf s) → statusOf s ≡ Status.the-variants.Complete
+valid-complete s r v = go (s .tank) refl (s .site) refl (s .anchors) refl
+  where
+    go : (t : TankEntry.TankEntry) → s .tank ≡ t → (x : SiteEntry.SiteEntry) → s .site ≡ x → (a : AnchorsEntry.AnchorsEntry) → s .anchors ≡ a
+        → statusOf s ≡ Status.the-variants.Complete
+    go TankEntry.the-variants.Blank e x f a g =
+        absurd (blank-flawed .0 (subst (λ (t : TankEntry.TankEntry). T (clear (tankFlaws (tankOf t)))) e (v .tank)))
+    go (TankEntry.the-variants.Filled t) e SiteEntry.the-variants.Blank f a g =
+        absurd (blank-flawed .1 (subst (λ (x : SiteEntry.SiteEntry). T (clear (siteFlaws (siteOf x)))) f (v .site)))
+    go (TankEntry.the-variants.Filled t) e (SiteEntry.the-variants.Filled x) f AnchorsEntry.the-variants.Blank g =
+        let D = tankOf (s .tank) .diameter in
+        absurd (blank-flawed .2 D (subst (λ (a : AnchorsEntry.AnchorsEntry). T (clear (anchorFlaws D (anchorsOf a)))) g (v .anchors)))
+    go (TankEntry.the-variants.Filled t) e (SiteEntry.the-variants.Filled x) f (AnchorsEntry.the-variants.Filled a) g =
+        complete-status s r t e (λ z. omega (arith, z, v .some)) x f a g
 
 -- of an answer that is at hand
 module _ (s : Sheet) {y : Completed} (e : y ≡ completedOf s) where

@@ -12,18 +12,15 @@ use lib.ListN.{length, getD, take, drop, set, length-set}
 use lib.Seq.{drop-set-lt, drop-cons}
 use mir.Facts.{and-yes, yes-and, leb-yes, yes-leb, eqb-yes, yes-eqb}
 use borrow.Author.Tests.{leb-false, ltb-false}
-use Rattle.fields.specs.Range.{between, within}
 use Rattle.fields.specs.declared.refusal.Refusal.the-variants.{TankStated, NoTank, CoursesFull}
 use Rattle.entries.specs.Order.{_when_, firstOf, clear}
-use Rattle.entries.specs.Sheet.{tooHigh, noAnchors, anchorFigures, courseFigures, blankCourse, emptySheet, held, heightOf, badAnchors, tankFlaws, siteFlaws, anchorFlaws, courseFlaws, tankOf}
-use Rattle.parts.specs.Parts.{blank, siteBlank, siteClear, coursesClear, coursesBlank, slotsReachable, partsReachable}
+use Rattle.entries.specs.Sheet.{tooHigh, courseFigures, blankCourse, emptySheet, held, heightOf, tankFlaws, siteFlaws, anchorFlaws, courseFlaws, tankOf}
+use Rattle.parts.specs.Parts.{blank, siteBlank, siteClear, anchorsBlank, anchorsClear, coursesClear, coursesBlank, slotsReachable, partsReachable}
 use Rattle.sheet.specs.Steps.{Step, stateTank, stateSite, stateAnchors, addCourse, tankBlank, orderOf, filled, replied, applied, run, reachable}
-use Rattle.entries.specs.declared.sheet.Tank.{Tank}
-use Rattle.entries.specs.declared.sheet.Site.{Site}
-use Rattle.entries.specs.declared.sheet.Anchors.{Anchors}
 use Rattle.entries.specs.declared.sheet.Course.{Course}
 use Rattle.entries.specs.declared.sheet.TankEntry as TankEntry
 use Rattle.entries.specs.declared.sheet.SiteEntry as SiteEntry
+use Rattle.entries.specs.declared.sheet.AnchorsEntry as AnchorsEntry
 use Rattle.entries.specs.declared.sheet.Sheet.{Sheet}
 use Rattle.sheet.specs.declared.steps.Reply.{Reply}
 use Rattle.entries.specs.declared.answer.Answer.{Answer}
@@ -78,24 +75,14 @@ module _ (s : Sheet) where
 
 -- ---- every step keeps it
 
-pub anchors-blank : (a : Anchors) → T (blank (anchorFigures a)) → a ≡ noAnchors
-anchors-blank a h =
-    let b = and-yes (eqb (a .number) 0) (blank (a .circle ∷ a .size ∷ [])) h in
-    let c = and-yes (eqb (a .circle) 0) (blank (a .size ∷ [])) (b .1) in
-    let x : a .number ≡ 0 = eqb-yes (b .0) in
-    let y : a .circle ≡ 0 = eqb-yes (c .0) in
-    let z : a .size ≡ 0 = eqb-yes (and-yes (eqb (a .size) 0) true (c .1) .0) in
-    let r : _≡_ {A = Anchors} (record { number = a .number; circle = a .circle; size = a .size }) noAnchors = cc in
-    r
+-- a site and anchors that are not stated
+pub site-blank : (x : SiteEntry.SiteEntry) → T (siteBlank x) → x ≡ SiteEntry.the-variants.Blank
+site-blank SiteEntry.the-variants.Blank h = refl
+site-blank (SiteEntry.the-variants.Filled x) h = absurd h
 
--- no anchors suit every tank, so that a tank may be stated over them
-none-clear : (D : ℕ) (a : Anchors) → T (blank (anchorFigures a)) → T (clear (anchorFlaws D a))
-unfolding clear anchorFlaws badAnchors within between
-none-clear D a h = subst (λ (z : Anchors). T (clear (anchorFlaws D z))) (sym (anchors-blank a h)) tt
-
-site-blank-clear : (x : SiteEntry.SiteEntry) → T (siteBlank x) → T (siteClear x)
-site-blank-clear SiteEntry.the-variants.Blank h = tt
-site-blank-clear (SiteEntry.the-variants.Filled x) h = absurd h
+pub anchors-blank : (a : AnchorsEntry.AnchorsEntry) → T (anchorsBlank a) → a ≡ AnchorsEntry.the-variants.Blank
+anchors-blank AnchorsEntry.the-variants.Blank h = refl
+anchors-blank (AnchorsEntry.the-variants.Filled a) h = absurd h
 
 -- one course more
 course-slots : (cs : List Course) (n : ℕ) (c : Course) → Slots cs n → n < 12 → T (clear (courseFlaws c))
@@ -116,64 +103,65 @@ tank-entry-blank : (e : TankEntry.TankEntry) → not (tankBlank e) ≡ false →
 tank-entry-blank TankEntry.the-variants.Blank h = refl
 tank-entry-blank (TankEntry.the-variants.Filled t) h = absurd (subst T h tt)
 
-pub record Held (e : TankEntry.TankEntry) : Type 0 where
-  pub tank : Tank
-  pub is : e ≡ TankEntry.the-variants.Filled tank
+-- an entry that is filled in, and so no longer blank
+pub record Held {E A : Type 0} (fill : A → E) (e : E) : Type 0 where
+  pub entry : A
+  pub is : e ≡ fill entry
 
-pub tank-entry-held : (e : TankEntry.TankEntry) → tankBlank e ≡ false → Held e
-tank-entry-held TankEntry.the-variants.Blank h = absurd (subst T h tt)
-tank-entry-held (TankEntry.the-variants.Filled t) h = record { tank = t; is = refl }
+pub tank-held : (e : TankEntry.TankEntry) → tankBlank e ≡ false → Held TankEntry.the-variants.Filled e
+tank-held TankEntry.the-variants.Blank h = absurd (subst T h tt)
+tank-held (TankEntry.the-variants.Filled t) h = record { entry = t; is = refl }
 
-pub record Placed (e : SiteEntry.SiteEntry) : Type 0 where
-  pub site : Site
-  pub is : e ≡ SiteEntry.the-variants.Filled site
+pub site-held : (e : SiteEntry.SiteEntry) → siteBlank e ≡ false → Held SiteEntry.the-variants.Filled e
+site-held SiteEntry.the-variants.Blank h = absurd (subst T h tt)
+site-held (SiteEntry.the-variants.Filled x) h = record { entry = x; is = refl }
 
-pub site-entry-placed : (e : SiteEntry.SiteEntry) → siteBlank e ≡ false → Placed e
-site-entry-placed SiteEntry.the-variants.Blank h = absurd (subst T h tt)
-site-entry-placed (SiteEntry.the-variants.Filled x) h = record { site = x; is = refl }
+pub anchors-held : (e : AnchorsEntry.AnchorsEntry) → anchorsBlank e ≡ false → Held AnchorsEntry.the-variants.Filled e
+anchors-held AnchorsEntry.the-variants.Blank h = absurd (subst T h tt)
+anchors-held (AnchorsEntry.the-variants.Filled a) h = record { entry = a; is = refl }
 
 module _ (s : Sheet) (h : T (reachable s)) where
   parts : T (partsReachable (s .tank) (s .site) (s .anchors) (s .count))
   parts = reach-halves s h .1
 
-  pub parts-held : (d : Held (s .tank)) → T (clear (tankFlaws (d .tank))) × T (siteClear (s .site)) × T (clear (anchorFlaws (d .tank .diameter) (s .anchors)))
+  pub parts-held : (d : Held TankEntry.the-variants.Filled (s .tank)) → T (clear (tankFlaws (d .entry))) × T (siteClear (s .site)) × T (anchorsClear (d .entry .diameter) (s .anchors))
   parts-held d =
-      three-yes (clear (tankFlaws (d .tank))) (siteClear (s .site)) (clear (anchorFlaws (d .tank .diameter) (s .anchors)))
+      three-yes (clear (tankFlaws (d .entry))) (siteClear (s .site)) (anchorsClear (d .entry .diameter) (s .anchors))
       (subst (λ (e : TankEntry.TankEntry). T (partsReachable e (s .site) (s .anchors) (s .count))) (d .is) parts)
 
-  held-parts : (d : Held (s .tank)) (x : SiteEntry.SiteEntry) (a : Anchors) (n : ℕ) → T (siteClear x) → T (clear (anchorFlaws (d .tank .diameter) a))
+  held-parts : (d : Held TankEntry.the-variants.Filled (s .tank)) (x : SiteEntry.SiteEntry) (a : AnchorsEntry.AnchorsEntry) (n : ℕ) → T (siteClear x) → T (anchorsClear (d .entry .diameter) a)
       → T (partsReachable (s .tank) x a n)
   held-parts d x a n y z =
       subst (λ (e : TankEntry.TankEntry). T (partsReachable e x a n)) (sym (d .is))
-      (yes-three (clear (tankFlaws (d .tank))) (siteClear x) (clear (anchorFlaws (d .tank .diameter) a)) (parts-held d .0) y z)
+      (yes-three (clear (tankFlaws (d .entry))) (siteClear x) (anchorsClear (d .entry .diameter) a) (parts-held d .0) y z)
 
   pub filled-reachable : (x : Step) → firstOf (orderOf s x) ≡ Accepted → T (reachable (filled s x))
   filled-reachable (stateTank t) e =
       let o = first-cons (TankStated when not (tankBlank (s .tank))) (tankFlaws t) e in
-      let b = three-yes (siteBlank (s .site)) (blank (anchorFigures (s .anchors))) (eqb (s .count) 0)
+      let b = three-yes (siteBlank (s .site)) (anchorsBlank (s .anchors)) (eqb (s .count) 0)
       (subst (λ (e : TankEntry.TankEntry). T (partsReachable e (s .site) (s .anchors) (s .count))) (tank-entry-blank (s .tank) (o .0)) parts) in
       halves-reach (filled s (stateTank t)) (reach-slots s h)
-      (yes-three (clear (tankFlaws t)) (siteClear (s .site)) (clear (anchorFlaws (t .diameter) (s .anchors)))
+      (yes-three (clear (tankFlaws t)) (siteClear (s .site)) (anchorsClear (t .diameter) (s .anchors))
       (accepted-clear (tankFlaws t) (o .1))
-      (site-blank-clear (s .site) (b .0))
-      (none-clear (t .diameter) (s .anchors) (b .1)))
+      (subst (λ (x : SiteEntry.SiteEntry). T (siteClear x)) (sym (site-blank (s .site) (b .0))) tt)
+      (subst (λ (a : AnchorsEntry.AnchorsEntry). T (anchorsClear (t .diameter) a)) (sym (anchors-blank (s .anchors) (b .1))) tt))
   filled-reachable (stateSite x) e =
       let o = first-cons (NoTank when tankBlank (s .tank)) (siteFlaws x) e in
-      let d = tank-entry-held (s .tank) (o .0) in
+      let d = tank-held (s .tank) (o .0) in
       halves-reach (filled s (stateSite x)) (reach-slots s h)
       (held-parts d (SiteEntry.the-variants.Filled x) (s .anchors) (s .count) (accepted-clear (siteFlaws x) (o .1)) (parts-held d .2))
   filled-reachable (stateAnchors a) e =
       let o = first-cons (NoTank when tankBlank (s .tank)) (anchorFlaws (tankOf (s .tank) .diameter) a) e in
-      let d = tank-entry-held (s .tank) (o .0) in
+      let d = tank-held (s .tank) (o .0) in
       halves-reach (filled s (stateAnchors a)) (reach-slots s h)
-      (held-parts d (s .site) a (s .count) (parts-held d .1)
-      (accepted-clear (anchorFlaws (d .tank .diameter) a) (subst (λ (e : TankEntry.TankEntry). firstOf (anchorFlaws (tankOf e .diameter) a) ≡ Accepted) (d .is) (o .1))))
+      (held-parts d (s .site) (AnchorsEntry.the-variants.Filled a) (s .count) (parts-held d .1)
+      (accepted-clear (anchorFlaws (d .entry .diameter) a) (subst (λ (e : TankEntry.TankEntry). firstOf (anchorFlaws (tankOf e .diameter) a) ≡ Accepted) (d .is) (o .1))))
   filled-reachable (addCourse c) e =
       let high = tooHigh (heightOf (held s)) c in
       let o = first-cons (NoTank when tankBlank (s .tank)) ((CoursesFull when leb 12 (s .count)) ∷ (courseFlaws c ++ high ∷ [])) e in
       let f = first-cons (CoursesFull when leb 12 (s .count)) (courseFlaws c ++ high ∷ []) (o .1) in
       let g = first-append (courseFlaws c) (high ∷ []) (f .1) in
-      let d = tank-entry-held (s .tank) (o .0) in
+      let d = tank-held (s .tank) (o .0) in
       halves-reach (filled s (addCourse c))
       (course-slots (s .courses) (s .count) c (reach-slots s h) (leb-false 12 (s .count) (f .0)) (accepted-clear (courseFlaws c) (g .0)) (ltb-false 76800 (heightOf (held s) + c .width) (first-cons high [] (g .1) .0)))
       (held-parts d (s .site) (s .anchors) (s .count + 1) (parts-held d .1) (parts-held d .2))

@@ -14,6 +14,7 @@ use Rattle.entries.specs.declared.sheet.Anchors.{Anchors}
 use Rattle.entries.specs.declared.sheet.Course.{Course}
 use Rattle.entries.specs.declared.sheet.TankEntry as TankEntry
 use Rattle.entries.specs.declared.sheet.SiteEntry as SiteEntry
+use Rattle.entries.specs.declared.sheet.AnchorsEntry as AnchorsEntry
 use Rattle.entries.specs.declared.sheet.Sheet.{Sheet}
 use Rattle.entries.specs.declared.answer.Answer.{Answer}
 use Rattle.entries.specs.declared.answer.Answer.the-variants.{Accepted, Refused}
@@ -72,7 +73,13 @@ from tail n i = map addCourse (coursesIn (n - i) (drop (33 + 20 * i) tail))
 module _ (t : Tank) (x : Site) (a : Anchors) where
   abbrev pub with : List Course → ℕ → Sheet
   with cs i =
-      record { tank = TankEntry.the-variants.Filled t; site = SiteEntry.the-variants.Filled x; anchors = a; courses = cs; count = i }
+      record {
+        tank = TankEntry.the-variants.Filled t;
+        site = SiteEntry.the-variants.Filled x;
+        anchors = AnchorsEntry.the-variants.Filled a;
+        courses = cs;
+        count = i;
+      }
 
   module _ (tail : List ℕ) (n i : ℕ) (cs : List Course) {c : Course} {h : ℕ} {flaw : Answer} (l : i < n) (m : n ≤ 12)
       (k : c ≡ courseIn (drop (33 + 20 * i) tail)) (v : h ≡ heightOf (take i cs)) (f : flaw ≡ firstOf (courseFlaws c ++ tooHigh h c ∷ [])) where

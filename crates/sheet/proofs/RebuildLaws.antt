@@ -14,15 +14,14 @@ use mir.Facts.{and-yes, eqb-yes}
 use borrow.Author.Tests.{le-ltb}
 use Rattle.fields.specs.declared.refusal.Refusal.{Refusal}
 use Rattle.entries.specs.Order.{clear}
-use Rattle.entries.specs.Sheet.{anchorFigures, courseFigures, noAnchors, blankCourse, emptySheet, held, heightOf, tankFlaws, siteFlaws, anchorFlaws, courseFlaws}
-use Rattle.parts.specs.Parts.{blank, siteBlank, siteClear, coursesClear, coursesBlank, partsReachable}
+use Rattle.entries.specs.Sheet.{courseFigures, blankCourse, emptySheet, held, heightOf, tankFlaws, siteFlaws, anchorFlaws, courseFlaws}
+use Rattle.parts.specs.Parts.{blank, siteBlank, siteClear, anchorsBlank, anchorsClear, coursesClear, coursesBlank, partsReachable}
 use Rattle.sheet.specs.Steps.{Step, stateTank, stateSite, stateAnchors, addCourse, accepted, refused, applied, run, LeftByRun, reachable, unless, inTurn}
 use Rattle.entries.specs.declared.sheet.Tank.{Tank}
-use Rattle.entries.specs.declared.sheet.Site.{Site}
-use Rattle.entries.specs.declared.sheet.Anchors.{Anchors}
 use Rattle.entries.specs.declared.sheet.Course.{Course}
 use Rattle.entries.specs.declared.sheet.TankEntry as TankEntry
 use Rattle.entries.specs.declared.sheet.SiteEntry as SiteEntry
+use Rattle.entries.specs.declared.sheet.AnchorsEntry as AnchorsEntry
 use Rattle.entries.specs.declared.sheet.Sheet.{Sheet}
 use Rattle.sheet.specs.declared.steps.Reply.{Reply}
 use Rattle.entries.specs.declared.answer.Answer.{Answer}
@@ -32,12 +31,12 @@ use Rattle.lists.proofs.BoolLaws.{three-yes}
 use Rattle.lists.proofs.PadLaws.{padded-next}
 use Rattle.entries.proofs.OrderLaws.{first-then, clash, clear-accepted}
 use Rattle.entries.proofs.CourseLaws.{height-append}
-use Rattle.sheet.proofs.StepLaws.{tank-applied, site-applied, anchors-applied, course-applied, turn}
-use Rattle.sheet.proofs.ReachLaws.{anchors-blank, Slots, Held, reach-halves, reach-slots, parts-held, empty-reachable, run-reachable}
+use Rattle.sheet.proofs.StepLaws.{tank-applied, site-applied, anchors-applied, course-applied, turn, turn-accepted}
+use Rattle.sheet.proofs.ReachLaws.{site-blank, anchors-blank, Slots, Held, reach-halves, reach-slots, parts-held, empty-reachable, run-reachable}
 
 -- ---- a reachable sheet is its parts, with blank slots behind its courses
 
-abbrev pub sheetOf : TankEntry.TankEntry → SiteEntry.SiteEntry → Anchors → List Course → Sheet
+abbrev pub sheetOf : TankEntry.TankEntry → SiteEntry.SiteEntry → AnchorsEntry.AnchorsEntry → List Course → Sheet
 sheetOf e x a h = record { tank = e; site = x; anchors = a; courses = padded blankCourse h; count = length h }
 
 blank-course : (c : Course) → T (blank (courseFigures c)) → c ≡ blankCourse
@@ -85,7 +84,7 @@ module _ (s : Sheet) (h : T (reachable s)) where
 
 -- ---- it is rebuilt from the empty sheet
 
-module _ (t : Tank) (x : SiteEntry.SiteEntry) (a : Anchors) where
+module _ (t : Tank) (x : SiteEntry.SiteEntry) (a : AnchorsEntry.AnchorsEntry) where
   abbrev with : List Course → Sheet
   with h = sheetOf (TankEntry.the-variants.Filled t) x a h
 
@@ -108,53 +107,55 @@ module _ (t : Tank) (x : SiteEntry.SiteEntry) (a : Anchors) where
       ∙ (courses-added rest (h ++ c ∷ []) (omega (arith, length-append h (c ∷ []))) (d .1) (omega (arith, height-append h (c ∷ [])))
       ∙ ap (λ (r : List Course). accepted (with r)) (append-snoc h c rest))
 
--- what a sheet holds, stated in document 01's order; a site that is blank is not stated
+-- what a sheet holds, stated in document 01's order; a site or anchors that are blank are not stated
 abbrev pub siteSteps : SiteEntry.SiteEntry → List Step
 siteSteps SiteEntry.the-variants.Blank = []
 siteSteps (SiteEntry.the-variants.Filled x) = stateSite x ∷ []
 
-abbrev pub stepsOf : Tank → SiteEntry.SiteEntry → Anchors → List Course → List Step
-stepsOf t x a cs = stateTank t ∷ (siteSteps x ++ stateAnchors a ∷ map addCourse cs)
+abbrev pub anchorsSteps : AnchorsEntry.AnchorsEntry → List Step
+anchorsSteps AnchorsEntry.the-variants.Blank = []
+anchorsSteps (AnchorsEntry.the-variants.Filled a) = stateAnchors a ∷ []
+
+abbrev pub stepsOf : Tank → SiteEntry.SiteEntry → AnchorsEntry.AnchorsEntry → List Course → List Step
+stepsOf t x a cs = stateTank t ∷ (siteSteps x ++ (anchorsSteps a ++ map addCourse cs))
 
 module _ (t : Tank) where
-  abbrev bare : SiteEntry.SiteEntry → Anchors → Sheet
+  abbrev bare : SiteEntry.SiteEntry → AnchorsEntry.AnchorsEntry → Sheet
   bare x a = sheetOf (TankEntry.the-variants.Filled t) x a []
 
-  tank-first : T (clear (tankFlaws t)) → applied emptySheet (stateTank t) ≡ accepted (bare SiteEntry.the-variants.Blank noAnchors)
+  tank-first : T (clear (tankFlaws t))
+      → applied emptySheet (stateTank t) ≡ accepted (bare SiteEntry.the-variants.Blank AnchorsEntry.the-variants.Blank)
   tank-first k = tank-applied emptySheet refl t ∙ rw (clear-accepted (tankFlaws t) k)
 
-  site-next : (x : Site) → T (clear (siteFlaws x))
-      → applied (bare SiteEntry.the-variants.Blank noAnchors) (stateSite x) ≡ accepted (bare (SiteEntry.the-variants.Filled x) noAnchors)
-  site-next x k = site-applied (bare SiteEntry.the-variants.Blank noAnchors) t refl x ∙ rw (clear-accepted (siteFlaws x) k)
+  site-next : (x : SiteEntry.SiteEntry) (a : AnchorsEntry.AnchorsEntry) (xs : List Step) → T (siteClear x)
+      → inTurn (bare SiteEntry.the-variants.Blank a) (siteSteps x ++ xs) ≡ inTurn (bare x a) xs
+  site-next SiteEntry.the-variants.Blank a xs k = refl
+  site-next (SiteEntry.the-variants.Filled x) a xs k =
+      turn-accepted (bare SiteEntry.the-variants.Blank a) (stateSite x) xs (site-applied (bare SiteEntry.the-variants.Blank a) t refl x) (clear-accepted (siteFlaws x) k)
 
-  anchors-next : (x : SiteEntry.SiteEntry) (a : Anchors) → T (clear (anchorFlaws (t .diameter) a))
-      → applied (bare x noAnchors) (stateAnchors a) ≡ accepted (bare x a)
-  anchors-next x a k = anchors-applied (bare x noAnchors) t refl a ∙ rw (clear-accepted (anchorFlaws (t .diameter) a) k)
+  anchors-next : (x : SiteEntry.SiteEntry) (a : AnchorsEntry.AnchorsEntry) (xs : List Step) → T (anchorsClear (t .diameter) a)
+      → inTurn (bare x AnchorsEntry.the-variants.Blank) (anchorsSteps a ++ xs) ≡ inTurn (bare x a) xs
+  anchors-next x AnchorsEntry.the-variants.Blank xs k = refl
+  anchors-next x (AnchorsEntry.the-variants.Filled a) xs k =
+      turn-accepted (bare x AnchorsEntry.the-variants.Blank) (stateAnchors a) xs (anchors-applied (bare x AnchorsEntry.the-variants.Blank) t refl a) (clear-accepted (anchorFlaws (t .diameter) a) k)
 
-  sites-next : (x : SiteEntry.SiteEntry) (xs : List Step) (r : Reply) → T (siteClear x) → inTurn (bare x noAnchors) xs ≡ r
-      → inTurn (bare SiteEntry.the-variants.Blank noAnchors) (siteSteps x ++ xs) ≡ r
-  sites-next SiteEntry.the-variants.Blank xs r k e = e
-  sites-next (SiteEntry.the-variants.Filled x) xs r k e =
-      turn (bare SiteEntry.the-variants.Blank noAnchors) (stateSite x) xs (site-next x k) ∙ e
-
-  all-stated : (x : SiteEntry.SiteEntry) (a : Anchors) (cs : List Course)
-      → T (clear (tankFlaws t)) → T (siteClear x) → T (clear (anchorFlaws (t .diameter) a))
+  all-stated : (x : SiteEntry.SiteEntry) (a : AnchorsEntry.AnchorsEntry) (cs : List Course)
+      → T (clear (tankFlaws t)) → T (siteClear x) → T (anchorsClear (t .diameter) a)
       → length cs ≤ 12 → T (coursesClear cs) → heightOf cs ≤ 76800
       → inTurn emptySheet (stepsOf t x a cs) ≡ accepted (sheetOf (TankEntry.the-variants.Filled t) x a cs)
   all-stated x a cs kt kx ka l kc m =
-      let whole = accepted (sheetOf (TankEntry.the-variants.Filled t) x a cs) in
-      turn emptySheet (stateTank t) (siteSteps x ++ stateAnchors a ∷ map addCourse cs) (tank-first kt)
-      ∙ sites-next x (stateAnchors a ∷ map addCourse cs) whole kx
-      (turn (bare x noAnchors) (stateAnchors a) (map addCourse cs) (anchors-next x a ka)
-      ∙ courses-added t x a cs [] (omega arith) kc (omega arith))
+      turn emptySheet (stateTank t) (siteSteps x ++ (anchorsSteps a ++ map addCourse cs)) (tank-first kt)
+      ∙ site-next x AnchorsEntry.the-variants.Blank (anchorsSteps a ++ map addCourse cs) kx
+      ∙ anchors-next x a (map addCourse cs) ka
+      ∙ courses-added t x a cs [] (omega arith) kc (omega arith)
 
 -- A SHEET THAT PASSES THE TEST IS WHAT ITS OWN STEPS LEAVE
-pub rebuilt : (s : Sheet) → T (reachable s) → (d : Held (s .tank))
-    → inTurn emptySheet (stepsOf (d .tank) (s .site) (s .anchors) (held s)) ≡ accepted s
+pub rebuilt : (s : Sheet) → T (reachable s) → (d : Held TankEntry.the-variants.Filled (s .tank))
+    → inTurn emptySheet (stepsOf (d .entry) (s .site) (s .anchors) (held s)) ≡ accepted s
 rebuilt s h d =
     let p = parts-held s h d in
     let l = reach-slots s h in
-    all-stated (d .tank) (s .site) (s .anchors) (held s) (p .0) (p .1) (p .2) (omega (arith, held-length s h, l .few)) (l .clear) (l .low)
+    all-stated (d .entry) (s .site) (s .anchors) (held s) (p .0) (p .1) (p .2) (omega (arith, held-length s h, l .few)) (l .clear) (l .low)
     ∙ ap (λ (e : TankEntry.TankEntry). accepted (sheetOf e (s .site) (s .anchors) (held s))) (sym (d .is))
     ∙ ap accepted (sym (as-parts s h))
 
@@ -174,27 +175,23 @@ in-turn-run (x ∷ xs) s t e = go (applied s x .answer) (in-turn-run xs (applied
 
 no-tank-empty : (s : Sheet) → T (reachable s) → s .tank ≡ TankEntry.the-variants.Blank → s ≡ emptySheet
 no-tank-empty s h e =
-    let b = three-yes (siteBlank (s .site)) (blank (anchorFigures (s .anchors))) (eqb (s .count) 0)
+    let b = three-yes (siteBlank (s .site)) (anchorsBlank (s .anchors)) (eqb (s .count) 0)
     (subst (λ (e : TankEntry.TankEntry). T (partsReachable e (s .site) (s .anchors) (s .count))) e (reach-halves s h .1)) in
     let n : s .count ≡ 0 = eqb-yes (b .2) in
     let x : s .site ≡ SiteEntry.the-variants.Blank = site-blank (s .site) (b .0) in
-    let a : s .anchors ≡ noAnchors = anchors-blank (s .anchors) (b .1) in
+    let a : s .anchors ≡ AnchorsEntry.the-variants.Blank = anchors-blank (s .anchors) (b .1) in
     let c : held s ≡ [] = ap (λ (k : ℕ). take k (s .courses)) n in
     as-parts s h
     ∙ ap (λ (e : TankEntry.TankEntry). sheetOf e (s .site) (s .anchors) (held s)) e
     ∙ ap (λ (x : SiteEntry.SiteEntry). sheetOf TankEntry.the-variants.Blank x (s .anchors) (held s)) x
-    ∙ ap (λ (a : Anchors). sheetOf TankEntry.the-variants.Blank SiteEntry.the-variants.Blank a (held s)) a
-    ∙ ap (λ (l : List Course). sheetOf TankEntry.the-variants.Blank SiteEntry.the-variants.Blank noAnchors l) c
-  where
-    site-blank : (x : SiteEntry.SiteEntry) → T (siteBlank x) → x ≡ SiteEntry.the-variants.Blank
-    site-blank SiteEntry.the-variants.Blank t = refl
-    site-blank (SiteEntry.the-variants.Filled x) t = absurd t
+    ∙ ap (λ (a : AnchorsEntry.AnchorsEntry). sheetOf TankEntry.the-variants.Blank SiteEntry.the-variants.Blank a (held s)) a
+    ∙ ap (λ (l : List Course). sheetOf TankEntry.the-variants.Blank SiteEntry.the-variants.Blank AnchorsEntry.the-variants.Blank l) c
 
 reachable-left : (s : Sheet) (e : TankEntry.TankEntry) → s .tank ≡ e → T (reachable s) → LeftByRun s
 reachable-left s TankEntry.the-variants.Blank e h = record { steps = []; leaves = sym (no-tank-empty s h e) }
 reachable-left s (TankEntry.the-variants.Filled t) e h =
     let xs = stepsOf t (s .site) (s .anchors) (held s) in
-    record { steps = xs; leaves = in-turn-run xs emptySheet s (rebuilt s h (record { tank = t; is = e })) }
+    record { steps = xs; leaves = in-turn-run xs emptySheet s (rebuilt s h (record { entry = t; is = e })) }
 
 -- REFUSAL 30 IS FOR EXACTLY THE SHEETS THAT NO RUN OF STEPS LEAVES
 pub left-exactly : (s : Sheet) → T (reachable s) ↔ LeftByRun s

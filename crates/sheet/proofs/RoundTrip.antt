@@ -7,11 +7,10 @@ use Prim.Native.Nat.{ℕ, _≤_}
 use native.Mathlib.Nat.{lt-of-not-le}
 use native.Mathlib.Decide.{decLe}
 use native.Mathlib.Omega.{arith}
-use lib.Dec.{T, eqb}
+use lib.Dec.{T}
 use lib.ListN.{length, take, drop}
 use lib.Seq.{take-at, append-snoc}
 use mir.Facts.{and-yes}
-use Rattle.fields.specs.Refusal.{plain}
 use Rattle.fields.specs.declared.refusal.Refusal.{Refusal}
 use Rattle.fields.specs.declared.refusal.Refusal.the-variants.{BadAnchors, BufferTooShort, Unreachable}
 use Rattle.fields.proofs.RefusalLaws.{never-zero}
@@ -25,6 +24,7 @@ use Rattle.entries.specs.declared.sheet.Course.{Course}
 use Rattle.entries.specs.declared.sheet.Sheet.{Sheet}
 use Rattle.entries.specs.declared.sheet.TankEntry as TankEntry
 use Rattle.entries.specs.declared.sheet.SiteEntry as SiteEntry
+use Rattle.entries.specs.declared.sheet.AnchorsEntry as AnchorsEntry
 use Rattle.entries.specs.declared.answer.Answer.{Answer}
 use Rattle.entries.specs.declared.answer.Answer.the-variants.{Accepted, Refused}
 use Rattle.entries.proofs.FieldLaws.{all-pass, both-pass}
@@ -40,7 +40,6 @@ use Rattle.sheet.specs.Steps.{Step, stateTank, stateSite, stateAnchors, 
 use Rattle.sheet.specs.Complete.{completeOrder, entriesOf, coursesOf, noEntries, statusOf, completedOf, completedCode, codeWith}
 use Rattle.sheet.specs.Writing.{bytesOf, sizeOf, WriteReply, written, writeCode, writtenCode}
 use Rattle.sheet.specs.Reading.{fromCourses, fromAnchors, fromSite, stepsIn, readIn, withHeight, unlessCode, readCode, completedFrom, readCompleted, bytesCode, WritesBack, ReadsBack}
-use Rattle.sheet.specs.declared.complete.Entries.{Entries}
 use Rattle.sheet.specs.declared.complete.Completeness as Status
 use Rattle.sheet.specs.declared.complete.Completed.{Completed}
 use Rattle.sheet.specs.declared.reading.Reading.{Reading}
@@ -64,7 +63,7 @@ in-turn-split s t x xs e = go (applied s x .answer) refl e
     go (Refused r) f e = absurd (refused-accepted r emptySheet t e)
 
 -- the tank, the site, the anchors and the courses that a sheet holds
-pub record Holds (s : Sheet) (t : TankEntry.TankEntry) (x : SiteEntry.SiteEntry) (a : Anchors) (cs : List Course) : Type 0 where
+pub record Holds (s : Sheet) (t : TankEntry.TankEntry) (x : SiteEntry.SiteEntry) (a : AnchorsEntry.AnchorsEntry) (cs : List Course) : Type 0 where
   pub tank : s .tank ≡ t
   pub site : s .site ≡ x
   pub anchors : s .anchors ≡ a
@@ -93,7 +92,7 @@ courses-left (c ∷ cs) s t r e =
 -- READING LEAVES WHAT THE BYTES HOLD
 read-holds : (b : List ℕ) (s : Sheet) (h : Header b) → inTurn emptySheet (stepsIn version1 b) ≡ accepted s
     → Holds s (TankEntry.the-variants.Filled (tankIn (drop 3 b))) (SiteEntry.the-variants.Filled (siteIn (tailIn version1 b)))
-    (anchorsIn (drop 20 (tailIn version1 b)))
+    (AnchorsEntry.the-variants.Filled (anchorsIn (drop 20 (tailIn version1 b))))
     (coursesIn (h .n) (drop 33 (tailIn version1 b)))
 unfolding stepsIn
 read-holds b s h e =
@@ -139,7 +138,7 @@ read-write b s k e buf l =
     let p = read-holds b s h (r .steps) in
     let ok = subst (λ (y : Reply). T (reachable (y .sheet))) e (read-sheet-reachable b) in
     let n : s .count ≡ h .n = sym (held-length s ok) ∙ ap length (p .courses) ∙ courses-in-length (h .n) (drop 33 tail) in
-    let o = complete-status s (T-true (reachable s) ok) (tankIn (drop 3 b)) (p .tank) (λ z. omega (arith, z, n, h .some)) (siteIn tail) (p .site) in
+    let o = complete-status s (T-true (reachable s) ok) (tankIn (drop 3 b)) (p .tank) (λ z. omega (arith, z, n, h .some)) (siteIn tail) (p .site) (anchorsIn (drop 20 tail)) (p .anchors) in
     let m : sizeOf (entriesOf s) ≡ length b = omega (arith, n, h .whole) in
     let same : bytesOf (entriesOf s) ≡ b
     = rw (p .tank, p .site, p .anchors, p .courses) (same-bytes b h k) in
@@ -165,7 +164,7 @@ small-courses (c ∷ cs) h =
 
 laid-steps : (t : Tank) (x : Site) (a : Anchors) (cs : List Course)
     → T (clear (tankFlaws t)) → T (clear (siteFlaws x)) → T (clear (anchorFlaws (t .diameter) a)) → T (coursesClear cs) → length cs ≤ 12
-    → stepsIn version1 (laid t x a cs) ≡ stepsOf t (SiteEntry.the-variants.Filled x) a cs
+    → stepsIn version1 (laid t x a cs) ≡ stepsOf t (SiteEntry.the-variants.Filled x) (AnchorsEntry.the-variants.Filled a) cs
 unfolding stepsIn tankFlaws siteFlaws anchorFlaws
 laid-steps t x a cs kt kx ka kc m =
     let n : countOf version1 (twoIn (laid t x a cs)) ≡ length cs = ap (countOf version1) (laid-length t x a cs m) ∙ count-of-length (length cs) in
@@ -185,8 +184,9 @@ bytes-read s o =
     let h = laid-header (e .tank) (e .site) (e .anchors) (held s) (omega (arith, n, v .some)) few in
     ap (λ (y : Answer). unless y (inTurn emptySheet (stepsIn version1 (layout version1 (e .tank) (e .site) (e .anchors) (held s))))) (headed (layout version1 (e .tank) (e .site) (e .anchors) (held s)) h)
     ∙ ap (λ (xs : List Step). inTurn emptySheet xs) (laid-steps (e .tank) (e .site) (e .anchors) (held s) (v .tank) (v .site) (v .anchors) (v .courses) few)
-    ∙ ap (λ (y : SiteEntry.SiteEntry). inTurn emptySheet (stepsOf (e .tank) y (e .anchors) (held s))) (sym (w .site))
-    ∙ rebuilt s (w .reach) (record { tank = e .tank; is = w .tank })
+    ∙ ap (λ (y : SiteEntry.SiteEntry). inTurn emptySheet (stepsOf (e .tank) y (AnchorsEntry.the-variants.Filled (e .anchors)) (held s))) (sym (w .site))
+    ∙ ap (λ (y : AnchorsEntry.AnchorsEntry). inTurn emptySheet (stepsOf (e .tank) (s .site) y (held s))) (sym (w .anchors))
+    ∙ rebuilt s (w .reach) (record { entry = e .tank; is = w .tank })
 
 -- A COMPLETE SHEET THAT IS WRITTEN AND READ AGAIN IS THE SAME SHEET, whatever the rest of the buffer held
 write-read : (s : Sheet) → statusOf s ≡ Status.the-variants.Complete → (buf : List ℕ)

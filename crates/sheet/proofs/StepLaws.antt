@@ -10,13 +10,14 @@ use Rattle.fields.specs.declared.refusal.Refusal.{Refusal}
 use Rattle.fields.specs.declared.refusal.Refusal.the-variants.{Unreachable, TankStated, NoTank, CoursesFull}
 use Rattle.entries.specs.Order.{Condition, _when_, firstOf}
 use Rattle.entries.specs.Sheet.{tooHigh, emptySheet, held, heightOf, tankFlaws, siteFlaws, anchorFlaws, courseFlaws, tankOf}
-use Rattle.sheet.specs.Steps.{Step, stateTank, stateSite, stateAnchors, addCourse, tankBlank, orderOf, filled, refused, replied, applied, stated, reachable, unless, inTurn}
+use Rattle.sheet.specs.Steps.{Step, stateTank, stateSite, stateAnchors, addCourse, tankBlank, orderOf, filled, refused, replied, applied, run, anchorsAfter, lastAnchors, stated, reachable, unless, inTurn}
 use Rattle.entries.specs.declared.sheet.Tank.{Tank}
 use Rattle.entries.specs.declared.sheet.Site.{Site}
 use Rattle.entries.specs.declared.sheet.Anchors.{Anchors}
 use Rattle.entries.specs.declared.sheet.Course.{Course}
 use Rattle.entries.specs.declared.sheet.TankEntry.{TankEntry}
 use Rattle.entries.specs.declared.sheet.TankEntry.the-variants.{Blank, Filled}
+use Rattle.entries.specs.declared.sheet.AnchorsEntry as AnchorsEntry
 use Rattle.entries.specs.declared.sheet.Sheet.{Sheet}
 use Rattle.sheet.specs.declared.steps.Reply.{Reply}
 use Rattle.entries.specs.declared.answer.Answer.{Answer}
@@ -97,3 +98,29 @@ module _ (s : Sheet) (x : Step) (xs : List Step) {a : Answer} (e : applied s x �
 
   pub turn-accepted : a ≡ Accepted → inTurn s (x ∷ xs) ≡ inTurn (filled s x) xs
   turn-accepted h = turn s x xs e ∙ rw h
+
+-- ---- the anchors held
+
+anchors-after : (s : Sheet) (x : Step) → applied s x .sheet .anchors ≡ anchorsAfter (s .anchors) x (applied s x .answer)
+unfolding applied
+anchors-after s x = go x (firstOf (orderOf s x))
+  where
+    go : (x : Step) (a : Answer) → replied a s (filled s x) .sheet .anchors ≡ anchorsAfter (s .anchors) x a
+    go (stateTank t) Accepted = refl
+    go (stateTank t) (Refused r) = refl
+    go (stateSite x) Accepted = refl
+    go (stateSite x) (Refused r) = refl
+    go (stateAnchors a) Accepted = refl
+    go (stateAnchors a) (Refused r) = refl
+    go (addCourse c) Accepted = refl
+    go (addCourse c) (Refused r) = refl
+
+anchors-run : (xs : List Step) (s : Sheet) → run s xs .anchors ≡ lastAnchors (s .anchors) s xs
+anchors-run [] s = refl
+anchors-run (x ∷ xs) s =
+    anchors-run xs (applied s x .sheet)
+    ∙ ap (λ (e : AnchorsEntry.AnchorsEntry). lastAnchors e (applied s x .sheet) xs) (anchors-after s x)
+
+-- A SHEET HOLDS THE ANCHORS THAT ITS RUN STATED LAST, AND NONE WHERE IT NEVER STATED ANY
+pub anchors-last : (xs : List Step) → run emptySheet xs .anchors ≡ lastAnchors AnchorsEntry.the-variants.Blank emptySheet xs
+anchors-last xs = anchors-run xs emptySheet

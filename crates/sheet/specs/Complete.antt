@@ -1,32 +1,37 @@
 -- What judging and writing ask of a sheet first, and what a complete one holds: document 01, "Filling in" ("A sheet is complete when it has a
--- tank, a site and a course") and "Order".
+-- tank, a site and a course") and "Order", with S-1 of document 02 ("A sheet is complete only when its anchors are stated too").
 use mathlib.Core.Path.{_≡_}
 use mathlib.Core.Bool.{cond}
 use mathlib.Core.List.{List, [], _∷_, _++_}
-use Prim.Native.Nat.{ℕ, _≤_}
+use Prim.Native.Nat.{_≤_}
 use lib.Dec.{T, eqb}
 use lib.ListN.{length, take, replicate}
 use Rattle.fields.specs.Refusal.{plain, codeOf}
 use Rattle.fields.specs.declared.refusal.Code.{Code}
-use Rattle.fields.specs.declared.refusal.Refusal.the-variants.{Unreachable, NoTank, NoCourse, NoSite}
+use Rattle.fields.specs.declared.refusal.Refusal.the-variants.{Unreachable, NoTank, NoCourse, NoSite, AnchorsUnstated}
 use Rattle.entries.specs.Order.{Condition, _when_, firstOf, andThen, clear, firstCode}
-use Rattle.entries.specs.Sheet.{noAnchors, blankCourse, held, heightOf, tankOf, siteOf, tankFlaws, siteFlaws, anchorFlaws}
+use Rattle.entries.specs.Sheet.{blankCourse, held, heightOf, tankOf, siteOf, anchorsOf, tankFlaws, siteFlaws, anchorFlaws}
 use Rattle.entries.specs.declared.sheet.Course.{Course}
 use Rattle.entries.specs.declared.sheet.TankEntry as TankEntry
 use Rattle.entries.specs.declared.sheet.SiteEntry as SiteEntry
+use Rattle.entries.specs.declared.sheet.AnchorsEntry as AnchorsEntry
 use Rattle.entries.specs.declared.sheet.Sheet.{Sheet}
 use Rattle.entries.specs.declared.answer.Answer.{Answer}
 use Rattle.entries.specs.declared.answer.Answer.the-variants.{Accepted, Refused}
-use Rattle.parts.specs.Parts.{siteBlank, coursesClear}
+use Rattle.parts.specs.Parts.{siteBlank, anchorsBlank, coursesClear}
 use Rattle.sheet.specs.Steps.{tankBlank, reachable, unreachable}
 use Rattle.sheet.specs.declared.complete.Entries.{Entries}
 use Rattle.sheet.specs.declared.complete.Completeness as Status
 use Rattle.sheet.specs.declared.complete.Completed.{Completed}
 
--- 32, 35, 36
+-- 32, 35, 36, 38
 abbrev pub incomplete : Sheet → List Condition
 incomplete s =
-    (NoTank when tankBlank (s .tank)) ∷ (NoCourse when eqb (s .count) 0) ∷ (NoSite when siteBlank (s .site)) ∷ []
+    (NoTank when tankBlank (s .tank))
+    ∷ (NoCourse when eqb (s .count) 0)
+    ∷ (NoSite when siteBlank (s .site))
+    ∷ (AnchorsUnstated when anchorsBlank (s .anchors))
+    ∷ []
 
 -- An order that goes on from these. `between` is what stands between 30 and 32 (nothing today; S-3 of document 02 has judging refuse there), `after` what
 -- follows.
@@ -39,7 +44,7 @@ entriesOf s =
     record {
       tank = tankOf (s .tank);
       site = siteOf (s .site);
-      anchors = s .anchors;
+      anchors = anchorsOf (s .anchors);
       courses = s .courses;
       count = s .count;
       height = heightOf (held s);
@@ -54,13 +59,13 @@ noEntries =
     record {
       tank = tankOf TankEntry.the-variants.Blank;
       site = siteOf SiteEntry.the-variants.Blank;
-      anchors = noAnchors;
+      anchors = anchorsOf AnchorsEntry.the-variants.Blank;
       courses = replicate 12 blankCourse;
       count = 0;
       height = 0;
     }
 
--- the answer: 30, or the first of 32, 35 and 36, or none of them
+-- the answer: 30, or the first of 32, 35, 36 and 38, or none of them
 abbrev pub statusAs : Answer → Status.Completeness
 statusAs Accepted = Status.the-variants.Complete
 statusAs (Refused r) = Status.the-variants.Refused r

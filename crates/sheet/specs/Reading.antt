@@ -22,7 +22,7 @@ use Rattle.layout.specs.Layout.{Version, version1}
 use Rattle.layout.specs.Header.{tankIn, siteIn, anchorsIn, coursesIn, tailIn, countOf, readOrder}
 use Rattle.sheet.specs.Steps.{Step, stateTank, stateSite, stateAnchors, addCourse, orderOf, filled, applied, accepted, unless, inTurn}
 use Rattle.sheet.specs.Complete.{completeOrder, entriesOf, noEntries, completedOf, CompletedCode, codeWith}
-use Rattle.sheet.specs.Writing.{WriteReply, written, writeCode}
+use Rattle.sheet.specs.Writing.{written, writeCode}
 use Rattle.sheet.specs.declared.complete.Completeness as Status
 use Rattle.sheet.specs.declared.complete.Completed.{Completed}
 use Rattle.sheet.specs.declared.reading.Reading.{Reading}

@@ -1,9 +1,9 @@
 -- The steps that fill a sheet in, and the sheets that they leave: document 01, "Filling in", "Refusals that come from the state" and
--- "Order".
+-- "Order"; document 02, S-1.
 use mathlib.Core.Path.{_≡_}
 use mathlib.Core.Bool.{Bool, true, false, not, _&&_}
 use mathlib.Core.List.{List, [], _∷_, _++_}
-use Prim.Native.Nat.{ℕ, _+_}
+use Prim.Native.Nat.{_+_}
 use lib.Dec.{leb}
 use lib.ListN.{set}
 use Rattle.fields.specs.declared.refusal.Refusal.{Refusal}
@@ -17,6 +17,7 @@ use Rattle.entries.specs.declared.sheet.Anchors.{Anchors}
 use Rattle.entries.specs.declared.sheet.Course.{Course}
 use Rattle.entries.specs.declared.sheet.TankEntry as TankEntry
 use Rattle.entries.specs.declared.sheet.SiteEntry as SiteEntry
+use Rattle.entries.specs.declared.sheet.AnchorsEntry as AnchorsEntry
 use Rattle.entries.specs.declared.sheet.Sheet.{Sheet}
 use Rattle.entries.specs.declared.answer.Answer.{Answer}
 use Rattle.entries.specs.declared.answer.Answer.the-variants.{Accepted, Refused}
@@ -49,7 +50,8 @@ filled s (stateTank t) =
     record { tank = TankEntry.the-variants.Filled t; site = s .site; anchors = s .anchors; courses = s .courses; count = s .count }
 filled s (stateSite x) =
     record { tank = s .tank; site = SiteEntry.the-variants.Filled x; anchors = s .anchors; courses = s .courses; count = s .count }
-filled s (stateAnchors a) = record { tank = s .tank; site = s .site; anchors = a; courses = s .courses; count = s .count }
+filled s (stateAnchors a) =
+    record { tank = s .tank; site = s .site; anchors = AnchorsEntry.the-variants.Filled a; courses = s .courses; count = s .count }
 filled s (addCourse c) =
     record { tank = s .tank; site = s .site; anchors = s .anchors; courses = set (s .courses) (s .count) c; count = s .count + 1 }
 
@@ -78,6 +80,18 @@ run s (x ∷ xs) = run (applied s x .sheet) xs
 pub record LeftByRun (s : Sheet) : Type 0 where
   pub steps : List Step
   pub leaves : run emptySheet steps ≡ s
+
+-- The anchors that a run states last, or none: S-1's "never stated" (`anchors-last`: they are what its sheet holds).
+abbrev pub anchorsAfter : AnchorsEntry.AnchorsEntry → Step → Answer → AnchorsEntry.AnchorsEntry
+anchorsAfter e (stateTank t) y = e
+anchorsAfter e (stateSite x) y = e
+anchorsAfter e (stateAnchors a) Accepted = AnchorsEntry.the-variants.Filled a
+anchorsAfter e (stateAnchors a) (Refused r) = e
+anchorsAfter e (addCourse c) y = e
+
+abbrev pub lastAnchors : AnchorsEntry.AnchorsEntry → Sheet → List Step → AnchorsEntry.AnchorsEntry
+lastAnchors e s [] = e
+lastAnchors e s (x ∷ xs) = lastAnchors (anchorsAfter e x (applied s x .answer)) (applied s x .sheet) xs
 
 -- The test for those sheets (`left-exactly`: it passes exactly them).
 unfoldable pub reachable : Sheet → Bool

@@ -1,5 +1,5 @@
 -- Writing a sheet: document 01, "Filling in" ("Writing fills the first 60 + 20 × n bytes, gives that number, and touches no later byte") and
--- "Order".
+-- "Order"; document 02, S-1.
 use mathlib.Core.Bool.{cond}
 use mathlib.Core.List.{List, [], _∷_, _++_}
 use Prim.Native.Nat.{ℕ}
@@ -28,7 +28,7 @@ sizeOf e = wholeLength version1 (e .count)
 abbrev pub noRoom : Entries → ℕ → Condition
 noRoom e room = BufferTooShort when ltb room (sizeOf e)
 
--- Write: 30, 32, 35, 36, 19.
+-- Write: 30, 32, 35, 36, 38, 19.
 abbrev pub writeOrder : Sheet → ℕ → List Condition
 writeOrder s room = completeOrder s [] (noRoom (entriesOf s) room ∷ [])
 

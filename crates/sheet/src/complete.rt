@@ -1,5 +1,5 @@
-// The answer to what judging and writing ask of a sheet first (document 01, "Filling in" and "Order"). The
-// functions are in the crate `complete`.
+// The answer to what judging and writing ask of a sheet first (document 01, "Filling in" and "Order"; document 02,
+// S-1). The functions are in the crate `complete`.
 use entries::Anchors;
 use entries::Course;
 use entries::Site;

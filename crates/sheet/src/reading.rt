@@ -13,6 +13,7 @@ ghost use Rattle.sheet.specs.Reading.{fromCourses, beforeCourses, stepsI
 use crate::steps;
 use crate::steps::Reply;
 use entries::Anchors;
+use entries::AnchorsEntry;
 use entries::Answer;
 use entries::Course;
 use entries::Sheet;
@@ -113,7 +114,7 @@ fn read_courses(tank: Tank, site: Site, anchors: Anchors, tail: &[u8], n: usize)
     let sheet = Sheet {
         tank: TankEntry::Filled(tank),
         site: SiteEntry::Filled(site),
-        anchors,
+        anchors: AnchorsEntry::Filled(anchors),
         courses,
         count: i,
     };

@@ -8,6 +8,7 @@ ghost use Rattle.entries.specs.Sheet.{tooHigh, held, heightOf, courseFlaws};
 ghost use Rattle.sheet.specs.Steps.{Step, orderOf, replied, refused, applied, unreachable, stated};
 use crate::reach;
 use entries::Anchors;
+use entries::AnchorsEntry;
 use entries::Answer;
 use entries::Course;
 use entries::MOST_COURSES;
@@ -153,10 +154,11 @@ fn apply_anchors(s: Sheet, a: Anchors) -> Reply
     let tank = s.tank;
     let site = s.site;
     let courses = s.courses;
+    let anchors = AnchorsEntry::Filled(a);
     let after = Sheet {
         tank,
         site,
-        anchors: a,
+        anchors,
         courses,
         count: s.count,
     };

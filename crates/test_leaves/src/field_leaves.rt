@@ -14,7 +14,7 @@ pub(crate) fn answer(leaf: u64, a: u64, b: u64) {
     }
 }
 
-// The refusals in document 01's order.
+// The refusals by their numbers.
 fn refusal(place: u64, field: u32) -> Refusal {
     match place {
         0 => Refusal::TooFewBytes,
@@ -33,6 +33,7 @@ fn refusal(place: u64, field: u32) -> Refusal {
         13 => Refusal::ShellTooHigh,
         14 => Refusal::NoCourse,
         15 => Refusal::NoSite,
-        _ => Refusal::WaterAboveShell,
+        16 => Refusal::WaterAboveShell,
+        _ => Refusal::AnchorsUnstated,
     }
 }

@@ -1,6 +1,7 @@
 // Figures out of a record's payload. What the payload does not have is 0: the oracle leaves out none.
 ghost use Prim.Native.Nat.{_≤_};
 use entries::Anchors;
+use entries::AnchorsEntry;
 use entries::Course;
 use entries::Sheet;
 use entries::Site;
@@ -106,14 +107,14 @@ pub(crate) fn course(payload: &[u8], k: usize) -> Course
 pub(crate) fn sheet(payload: &[u8]) -> Sheet {
     let tank = tank_entry(payload);
     let site = site_entry(payload);
-    let anchors = anchors(payload, 13);
+    let anchors = anchors_entry(payload);
     let courses = courses(payload);
     Sheet {
         tank,
         site,
         anchors,
         courses,
-        count: figure(payload, 16) as usize,
+        count: figure(payload, 17) as usize,
     }
 }
 
@@ -131,12 +132,19 @@ fn site_entry(payload: &[u8]) -> SiteEntry {
     SiteEntry::Filled(site(payload, 8))
 }
 
+fn anchors_entry(payload: &[u8]) -> AnchorsEntry {
+    if figure(payload, 13) == 0 {
+        return AnchorsEntry::Blank;
+    }
+    AnchorsEntry::Filled(anchors(payload, 14))
+}
+
 fn courses(payload: &[u8]) -> [Course; 12] {
-    let first = course(payload, 17);
+    let first = course(payload, 18);
     let mut all = [first; 12];
     let mut i: usize = 0;
     while i < 12 {
-        all[i] = course(payload, 17 + 5 * i);
+        all[i] = course(payload, 18 + 5 * i);
         i += 1;
     }
     all

@@ -58,7 +58,8 @@ fn answer(held: Sheet, code: u8, payload: &[u8]) -> Sheet {
         6 => replied(reading::read(payload)),
         7 => shown(figures::sheet(payload)),
         8 => judged(held, marking::judge_bytes(payload)),
-        _ => judged(held, judging::judge(figures::sheet(payload))),
+        9 => judged(held, judging::judge(figures::sheet(payload))),
+        _ => judged(held, judging::judge(held)),
     }
 }
 

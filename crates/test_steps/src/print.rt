@@ -1,4 +1,5 @@
 // Replies as lines of text, in oracle/records.py's letters.
+use entries::AnchorsEntry;
 use entries::Answer;
 use entries::Course;
 use entries::Sheet;
@@ -78,10 +79,8 @@ pub(crate) fn sheet(s: Sheet) {
     tank(entry);
     let entry = s.site;
     site(entry);
-    io::write_all(STDOUT_FILENO, b" anchors");
-    let a = s.anchors;
-    let figures = [a.number, a.circle, a.size];
-    numbers(&figures);
+    let entry = s.anchors;
+    anchors(entry);
     io::write_all(STDOUT_FILENO, b" count");
     number(s.count as u64);
     let courses = s.courses;
@@ -110,6 +109,19 @@ fn site(entry: SiteEntry) {
         }
         SiteEntry::Filled(x) => {
             let figures = [x.speed, x.exposure, x.importance, x.vertical, x.moment];
+            numbers(&figures);
+        }
+    }
+}
+
+fn anchors(entry: AnchorsEntry) {
+    io::write_all(STDOUT_FILENO, b" anchors");
+    match entry {
+        AnchorsEntry::Blank => {
+            io::write_all(STDOUT_FILENO, b" -");
+        }
+        AnchorsEntry::Filled(a) => {
+            let figures = [a.number, a.circle, a.size];
             numbers(&figures);
         }
     }

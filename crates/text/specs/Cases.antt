@@ -2,7 +2,7 @@
 use mathlib.Core.List.{List, [], _∷_, _++_}
 use Prim.Native.Nat.{ℕ}
 use Rattle.fields.specs.declared.refusal.Refusal.{Refusal}
-use Rattle.fields.specs.declared.refusal.Refusal.the-variants.{TooFewBytes, TooManyBytes, BadLength, BadVersion, BadCount, OutOfRange, AllowanceNotBelowPlate, BadAnchors, BufferTooShort, Unreachable, TankStated, NoTank, CoursesFull, ShellTooHigh, NoCourse, NoSite, WaterAboveShell}
+use Rattle.fields.specs.declared.refusal.Refusal.the-variants.{TooFewBytes, TooManyBytes, BadLength, BadVersion, BadCount, OutOfRange, AllowanceNotBelowPlate, BadAnchors, BufferTooShort, Unreachable, TankStated, NoTank, CoursesFull, ShellTooHigh, NoCourse, NoSite, WaterAboveShell, AnchorsUnstated}
 use Rattle.lists.specs.Ascii.{ascii}
 use Rattle.entries.specs.Sheet.{noAnchors}
 use Rattle.entries.specs.declared.sheet.Sheet.{Sheet}
@@ -54,6 +54,7 @@ refusals =
     ∷ NoCourse
     ∷ NoSite
     ∷ WaterAboveShell
+    ∷ AnchorsUnstated
     ∷ []
 
 abbrev pub refusalTexts : List (List ℕ)
@@ -76,4 +77,5 @@ refusalTexts =
     ∷ ascii "refused 35\n"
     ∷ ascii "refused 36\n"
     ∷ ascii "refused 37\n"
+    ∷ ascii "refused 38\n"
     ∷ []

@@ -10,13 +10,13 @@ enum-told-2 : tie.Need-enum-told-2
 enum-told-2 c = search needs
 
 returns : tie.Need-returns
-returns c = search needs
+returns c = rw (c .enum-told2 .given .1)
 
 returns-2 : tie.Need-returns-2
 returns-2 c = rw (c .before .enum-told .given .1, c .if1 .taken)
 
 returns-3 : tie.Need-returns-3
-returns-3 c = search needs
+returns-3 c = rw (c .before .enum-told .given .1, c .if1 .left)
 
 pub or-else-spec : {M : Type 1} → statement M
 or-else-spec = tie.close (tie.spec enum-told enum-told-2 returns returns-2 returns-3)

@@ -2,7 +2,7 @@
 use mathlib.Core.Path.{_∙_, sym}
 use borrow.Author.Tests.{not-true, not-false}
 use borrow.Author.Needs.{needs}
-use Rattle.entries.specs.Sheet.{tankFlaws, anchorFlaws}
+use Rattle.entries.specs.Sheet.{tankFlaws}
 use Rattle.entries.proofs.OrderLaws.{clear-of}
 use Rattle.parts.proofs.stated.parts_reachable.Statement.{statement}
 use Rattle.parts.proofs.stated.parts_reachable.Tie as tie
@@ -37,17 +37,14 @@ returns-3 c = let d = c .before .before in
     let t = d .before .before .before .before .tank .given .0 .0 in
     rw (d .before .before .before .before .tank .given .1, clear-of (tankFlaws t) (d .before .accepts .ensures) (d .before .before .tank-flaw .ensures .0) ∙ not-false _ (d .if1 .left), sym (c .before .site-clear .ensures) ∙ not-true _ (c .if2 .taken))
 
-anchors-flaw-requires : tie.Need-anchors-flaw-requires
-anchors-flaw-requires c κs = search needs
-
-accepts-requires-2 : tie.Need-accepts-requires-2
-accepts-requires-2 c κs = search needs
+anchors-clear-requires : tie.Need-anchors-clear-requires
+anchors-clear-requires c κs = search needs
 
 returns-4 : tie.Need-returns-4
-returns-4 c = let e = c .before .before in
+returns-4 c = let e = c .before in
     let d = e .before .before in
     let t = d .before .before .before .before .tank .given .0 .0 in
-    rw (d .before .before .before .before .tank .given .1, clear-of (tankFlaws t) (d .before .accepts .ensures) (d .before .before .tank-flaw .ensures .0) ∙ not-false _ (d .if1 .left), sym (e .before .site-clear .ensures) ∙ not-false _ (e .if2 .left), clear-of (anchorFlaws (t .diameter) (d .before .before .before .before .before .before .args .anchors)) (c .accepts2 .ensures) (c .before .anchors-flaw .ensures .0))
+    rw (d .before .before .before .before .tank .given .1, clear-of (tankFlaws t) (d .before .accepts .ensures) (d .before .before .tank-flaw .ensures .0) ∙ not-false _ (d .if1 .left), sym (e .before .site-clear .ensures) ∙ not-false _ (e .if2 .left)) (c .anchors-clear .ensures)
 
 pub parts-reachable-spec : {M : Type 1} → statement M
 parts-reachable-spec =
@@ -62,6 +59,5 @@ parts-reachable-spec =
     returns-2
     site-clear-requires
     returns-3
-    anchors-flaw-requires
-    accepts-requires-2
+    anchors-clear-requires
     returns-4)

@@ -19,7 +19,7 @@ parts-reachable-requires c κs = search needs
 
 returns-2 : tie.Need-returns-2
 unfolding reachable
-returns-2 c = left-clauses (c .before .before .before .before .before .args .s) (rw (sym (c .before .before .before .slots-reachable .ensures) ∙ not-false _ (c .before .before .if1 .left)) (c .parts-reachable .ensures))
+returns-2 c = left-clauses (c .before .before .before .before .args .s) (rw (sym (c .before .before .slots-reachable .ensures) ∙ not-false _ (c .before .if1 .left)) (c .parts-reachable .ensures))
 
 pub is-reachable-spec : {M : Type 1} → statement M
 is-reachable-spec =

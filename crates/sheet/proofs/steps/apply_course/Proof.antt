@@ -47,13 +47,13 @@ replied-requires c κs = search needs
 
 returns-3 : tie.Need-returns-3
 returns-3 c =
-    let s = c .before .before .before .before .before .before .before in
-    let t = c .before .before .before .before .before .enum-told .given in
+    let s = c .before .before .before .before .before .before in
+    let t = c .before .before .before .before .enum-told .given in
     let x = s .args .c in
     c .replied .ensures
     ∙ ap (λ a. replied a (s .args .s) (filled (s .args .s) (addCourse x)))
-    (c .before .before .before .added-flaw .ensures ∙ ap (λ h. firstOf (courseFlaws x ++ tooHigh h x ∷ [])) (s .pre .0))
-    ∙ sym (course-applied (s .args .s) (t .0 .0) (t .1) x (c .before .before .before .before .if1 .left))
+    (c .before .before .added-flaw .ensures ∙ ap (λ h. firstOf (courseFlaws x ++ tooHigh h x ∷ [])) (s .pre .0))
+    ∙ sym (course-applied (s .args .s) (t .0 .0) (t .1) x (c .before .before .before .if1 .left))
 
 pub apply-course-spec : {M : Type 1} → statement M
 apply-course-spec =

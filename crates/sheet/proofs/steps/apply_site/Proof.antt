@@ -26,10 +26,10 @@ replied-requires : tie.Need-replied-requires
 replied-requires c κs = search needs
 
 returns-2 : tie.Need-returns-2
-returns-2 c = let s = c .before .before .before .before .before .before .args in
-    let t = c .before .before .before .before .enum-told .given in
+returns-2 c = let s = c .before .before .before .before .before .args in
+    let t = c .before .before .before .enum-told .given in
     c .replied .ensures
-    ∙ ap (λ a. replied a (s .s) (filled (s .s) (stateSite (s .x)))) (c .before .before .before .site-flaw .ensures .0)
+    ∙ ap (λ a. replied a (s .s) (filled (s .s) (stateSite (s .x)))) (c .before .before .site-flaw .ensures .0)
     ∙ sym (site-applied (s .s) (t .0 .0) (t .1) (s .x))
 
 pub apply-site-spec : {M : Type 1} → statement M

@@ -26,10 +26,10 @@ replied-requires : tie.Need-replied-requires
 replied-requires c κs = search needs
 
 returns-2 : tie.Need-returns-2
-returns-2 c = let s = c .before .before .before .before .before .before .args in
+returns-2 c = let s = c .before .before .before .before .before .args in
     c .replied .ensures
-    ∙ ap (λ a. replied a (s .s) (filled (s .s) (stateTank (s .t)))) (c .before .before .before .tank-flaw .ensures .0)
-    ∙ sym (tank-applied (s .s) (c .before .before .before .before .enum-told .given .1) (s .t))
+    ∙ ap (λ a. replied a (s .s) (filled (s .s) (stateTank (s .t)))) (c .before .before .tank-flaw .ensures .0)
+    ∙ sym (tank-applied (s .s) (c .before .before .before .enum-told .given .1) (s .t))
 
 pub apply-tank-spec : {M : Type 1} → statement M
 apply-tank-spec =
