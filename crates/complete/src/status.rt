@@ -58,8 +58,7 @@ fn without(status: Completeness) -> Completed
     Completed { status, entries }
 }
 
-// The entries of a sheet that steps have left, whose courses have this height. Refused: 32, 35, 36,
-// 38.
+// The entries of a sheet that steps have left, whose courses have this height. Refused: 32, 35, 36, 38.
 fn complete_reachable(s: Sheet, height: u64) -> Completed
     requires { ⌜ T (reachable s) ⌝ }
     requires { ⌜ height ≡ heightOf (held s) ⌝ }

@@ -159,7 +159,7 @@ impl Site {
 }
 
 impl Anchors {
-    // Beside a refusal.
+    // Beside a refusal. Not N = 0, which is a statement.
     pub fn blank() -> Anchors
         ensures { λ r. ⌜ r ≡ anchorsOf AnchorsEntry.Blank ⌝ }
     {
