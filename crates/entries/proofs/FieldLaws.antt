@@ -1,6 +1,6 @@
 -- What a step without a flaw says of its figures: each is between the ends of its field's range. Tank and course: the allowance is below
 -- the plate. Anchors: none, or a number of them in range, on a bolt circle at least as wide as the tank, of a size that is in
--- the chart.
+-- the chart. And that what stands where nothing was stated has a flaw.
 -- Assumes nothing.
 use mathlib.Core.Path.{_≡_, refl, sym, _∙_, subst}
 use mathlib.Core.Bool.{Bool, true, false, not, _||_}

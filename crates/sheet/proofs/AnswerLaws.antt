@@ -17,7 +17,7 @@ use Rattle.fields.specs.declared.refusal.Refusal.the-variants.{Unreachable}
 use Rattle.fields.proofs.RefusalLaws.{never-zero}
 use Rattle.entries.specs.Order.{Condition, firstOf, First, answerCode, firstCode, codes, sixteen}
 use Rattle.entries.specs.Sheet.{emptySheet, tankFlaws, siteFlaws, anchorFlaws, courseFlaws}
-use Rattle.sheet.specs.Steps.{Step, stateTank, stateSite, stateAnchors, addCourse, orderOf, applied, LeftByRun, reachable, unreachable, stated, unless, inTurn}
+use Rattle.sheet.specs.Steps.{Step, stateTank, stateSite, stateAnchors, addCourse, orderOf, applied, anchorsAfter, LeftByRun, reachable, unreachable, stated, unless, inTurn}
 use Rattle.sheet.specs.Complete.{incomplete, entriesOf}
 use Rattle.sheet.specs.Writing.{sizeOf, noRoom, writeOrder, writeReply, written, writeCode, writtenCode}
 use Rattle.sheet.specs.Reading.{stepsIn, readIn, withHeight, unlessCode, turnCode, readCode}
@@ -37,7 +37,7 @@ use Rattle.lists.proofs.BoolLaws.{T-true}
 use Rattle.entries.proofs.OrderLaws.{clash, first-exactly, first-code}
 use Rattle.layout.specs.Layout.{version1}
 use Rattle.layout.specs.Header.{readOrder}
-use Rattle.sheet.proofs.StepLaws.{stated-applied}
+use Rattle.sheet.proofs.StepLaws.{stated-applied, anchors-after}
 use Rattle.sheet.proofs.ReachLaws.{reply-reachable, empty-reachable}
 use Rattle.sheet.proofs.RebuildLaws.{left-exactly}
 
@@ -207,6 +207,15 @@ pub height-clauses : (b : List ℕ) {y : Reading} → y ≡ withHeight (readIn b
 height-clauses b e = (e, ap (λ (z : Reading). answerCode (z .answer)) e ∙ read-code b)
 
 pub stated-clauses : (s : Sheet) (x : Step) {y : Reply} → y ≡ stated s x
-    → (y ≡ stated s x) × (answerCode (y .answer) ≡ firstCode (unreachable s ∷ orderOf s x))
+    → (y ≡ stated s x)
+    × ((answerCode (y .answer) ≡ firstCode (unreachable s ∷ orderOf s x)) × (y .sheet .anchors ≡ anchorsAfter (s .anchors) x (y .answer)))
 unfolding stated
-stated-clauses s x e = (e, ap (λ (z : Reply). answerCode (z .answer)) e ∙ first-code (unreachable s ∷ orderOf s x))
+stated-clauses s x e = (
+  e,
+  (
+    ap (λ (z : Reply). answerCode (z .answer)) e ∙ first-code (unreachable s ∷ orderOf s x),
+    ap (λ (z : Reply). z .sheet .anchors) e
+        ∙ anchors-after s x (firstOf (unreachable s ∷ orderOf s x))
+        ∙ ap (λ (z : Reply). anchorsAfter (s .anchors) x (z .answer)) (sym e),
+  ),
+)

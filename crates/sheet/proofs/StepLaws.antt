@@ -1,4 +1,4 @@
--- The laws of the steps: what each comes to, by what the sheet holds.
+-- The laws of the steps: what each comes to, by what the sheet holds; steps in turn; and the anchors that they leave.
 -- Assumes nothing.
 use mathlib.Core.Path.{_≡_, refl, ap, _∙_}
 use mathlib.Core.Bool.{true, false, not, cond}
@@ -101,25 +101,22 @@ module _ (s : Sheet) (x : Step) (xs : List Step) {a : Answer} (e : applied s x �
 
 -- ---- the anchors held
 
-anchors-after : (s : Sheet) (x : Step) → applied s x .sheet .anchors ≡ anchorsAfter (s .anchors) x (applied s x .answer)
-unfolding applied
-anchors-after s x = go x (firstOf (orderOf s x))
-  where
-    go : (x : Step) (a : Answer) → replied a s (filled s x) .sheet .anchors ≡ anchorsAfter (s .anchors) x a
-    go (stateTank t) Accepted = refl
-    go (stateTank t) (Refused r) = refl
-    go (stateSite x) Accepted = refl
-    go (stateSite x) (Refused r) = refl
-    go (stateAnchors a) Accepted = refl
-    go (stateAnchors a) (Refused r) = refl
-    go (addCourse c) Accepted = refl
-    go (addCourse c) (Refused r) = refl
+pub anchors-after : (s : Sheet) (x : Step) (y : Answer) → replied y s (filled s x) .sheet .anchors ≡ anchorsAfter (s .anchors) x y
+anchors-after s (stateTank t) Accepted = refl
+anchors-after s (stateTank t) (Refused r) = refl
+anchors-after s (stateSite x) Accepted = refl
+anchors-after s (stateSite x) (Refused r) = refl
+anchors-after s (stateAnchors a) Accepted = refl
+anchors-after s (stateAnchors a) (Refused r) = refl
+anchors-after s (addCourse c) Accepted = refl
+anchors-after s (addCourse c) (Refused r) = refl
 
 anchors-run : (xs : List Step) (s : Sheet) → run s xs .anchors ≡ lastAnchors (s .anchors) s xs
+unfolding applied
 anchors-run [] s = refl
 anchors-run (x ∷ xs) s =
     anchors-run xs (applied s x .sheet)
-    ∙ ap (λ (e : AnchorsEntry.AnchorsEntry). lastAnchors e (applied s x .sheet) xs) (anchors-after s x)
+    ∙ ap (λ (e : AnchorsEntry.AnchorsEntry). lastAnchors e (applied s x .sheet) xs) (anchors-after s x (firstOf (orderOf s x)))
 
 -- A SHEET HOLDS THE ANCHORS THAT ITS RUN STATED LAST, AND NONE WHERE IT NEVER STATED ANY
 pub anchors-last : (xs : List Step) → run emptySheet xs .anchors ≡ lastAnchors AnchorsEntry.the-variants.Blank emptySheet xs

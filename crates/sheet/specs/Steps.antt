@@ -81,7 +81,8 @@ pub record LeftByRun (s : Sheet) : Type 0 where
   pub steps : List Step
   pub leaves : run emptySheet steps ≡ s
 
--- The anchors that a run states last, or none: S-1's "never stated" (`anchors-last`: they are what its sheet holds).
+-- The anchors after a step, those before it being e; and those that a run states last, or none: S-1's "never stated" (`anchors-last`: they
+-- are what its sheet holds).
 abbrev pub anchorsAfter : AnchorsEntry.AnchorsEntry → Step → Answer → AnchorsEntry.AnchorsEntry
 anchorsAfter e (stateTank t) y = e
 anchorsAfter e (stateSite x) y = e

@@ -5,7 +5,7 @@ ghost use mathlib.Core.List.{[], _∷_, _++_};
 ghost use Prim.Native.Nat.{_≤_};
 ghost use Rattle.entries.specs.Order.{firstOf, answerCode, firstCode};
 ghost use Rattle.entries.specs.Sheet.{tooHigh, held, heightOf, courseFlaws};
-ghost use Rattle.sheet.specs.Steps.{Step, orderOf, replied, refused, applied, unreachable, stated};
+ghost use Rattle.sheet.specs.Steps.{Step, orderOf, replied, refused, applied, anchorsAfter, unreachable, stated};
 use crate::reach;
 use entries::Anchors;
 use entries::AnchorsEntry;
@@ -32,6 +32,7 @@ pub struct Reply {
 pub fn state_tank(s: Sheet, t: Tank) -> Reply
     ensures { λ r. ⌜ r ≡ stated s (Step.stateTank t) ⌝ }
     ensures { λ r. ⌜ answerCode (r .answer) ≡ firstCode (unreachable s ∷ orderOf s (Step.stateTank t)) ⌝ }
+    ensures { λ r. ⌜ r .sheet .anchors ≡ anchorsAfter (s .anchors) (Step.stateTank t) (r .answer) ⌝ }
 {
     if !reach::is_reachable(s) {
         return refuse(s, Refusal::Unreachable);
@@ -43,6 +44,7 @@ pub fn state_tank(s: Sheet, t: Tank) -> Reply
 pub fn state_site(s: Sheet, x: Site) -> Reply
     ensures { λ r. ⌜ r ≡ stated s (Step.stateSite x) ⌝ }
     ensures { λ r. ⌜ answerCode (r .answer) ≡ firstCode (unreachable s ∷ orderOf s (Step.stateSite x)) ⌝ }
+    ensures { λ r. ⌜ r .sheet .anchors ≡ anchorsAfter (s .anchors) (Step.stateSite x) (r .answer) ⌝ }
 {
     if !reach::is_reachable(s) {
         return refuse(s, Refusal::Unreachable);
@@ -54,6 +56,7 @@ pub fn state_site(s: Sheet, x: Site) -> Reply
 pub fn state_anchors(s: Sheet, a: Anchors) -> Reply
     ensures { λ r. ⌜ r ≡ stated s (Step.stateAnchors a) ⌝ }
     ensures { λ r. ⌜ answerCode (r .answer) ≡ firstCode (unreachable s ∷ orderOf s (Step.stateAnchors a)) ⌝ }
+    ensures { λ r. ⌜ r .sheet .anchors ≡ anchorsAfter (s .anchors) (Step.stateAnchors a) (r .answer) ⌝ }
 {
     if !reach::is_reachable(s) {
         return refuse(s, Refusal::Unreachable);
@@ -65,6 +68,7 @@ pub fn state_anchors(s: Sheet, a: Anchors) -> Reply
 pub fn add_course(s: Sheet, c: Course) -> Reply
     ensures { λ r. ⌜ r ≡ stated s (Step.addCourse c) ⌝ }
     ensures { λ r. ⌜ answerCode (r .answer) ≡ firstCode (unreachable s ∷ orderOf s (Step.addCourse c)) ⌝ }
+    ensures { λ r. ⌜ r .sheet .anchors ≡ anchorsAfter (s .anchors) (Step.addCourse c) (r .answer) ⌝ }
 {
     if !reach::is_reachable(s) {
         return refuse(s, Refusal::Unreachable);
