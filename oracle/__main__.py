@@ -18,6 +18,7 @@ from pathlib import Path
 
 import document
 import figures
+import ground
 import held
 import judged
 import judging
@@ -225,9 +226,9 @@ def main(arguments):
     if not __debug__:
         print("the oracle's checks are asserts: run it without -O", file=sys.stderr)
         return 2
-    self_test(document, sheet, judging, text, figures, tries)
+    self_test(document, ground, sheet, judging, text, figures, tries)
     if known is VECTOR_COMMANDS:
-        self_test(scripts, judged, held, sheets)    # over all vectors, which takes its time
+        self_test(leaves, scripts, judged, held, sheets)    # over all vectors, which takes its time
     return known[command](*operands)
 
 

@@ -1,9 +1,9 @@
 """Document 01 ("Flat-bottom steel water tanks: the check sheet") as data and rules.
 
-Written from the document alone, with request S-1 of document 02. Every figure is
-first an exact Fraction, then rounded as the document says. Letters (D, H, W, ...)
-are the document's; lengths are hundredths of an inch, plates mils, weights pounds,
-moments foot-pounds.
+Written from the document alone, with request S-1 of document 02 and the refusals of
+S-2, whose rules are ground.py's. Every figure is first an exact Fraction, then rounded
+as the document says. Letters (D, H, W, ...) are the document's; lengths are hundredths
+of an inch, plates mils, weights pounds, moments foot-pounds.
 """
 
 import struct
@@ -75,6 +75,8 @@ REFUSALS = {
     36: "no site",
     37: "H above Hs",
     38: "anchors never stated",
+    40: "Ss or S1 above 3,000",
+    41: "a site class other than A to E",
 }
 FIELD_REFUSAL = 16  # the only one that gives a field
 
@@ -386,7 +388,7 @@ def self_test():
 
     # data
     assert list(FIELD_RANGES) == list(range(1, 20))
-    assert list(REFUSALS) == [*range(11, 20), *range(30, 39)]
+    assert list(REFUSALS) == [*range(11, 20), *range(30, 39), 40, 41]
     assert [n for n in range(8) if field_in_range(ANCHORS_FIELD, n)] == [0, 6, 7]
 
     # ties to even: they need a side of 2**53 or more (see leaves.quotient_edges)

@@ -1,20 +1,22 @@
 """The leaf vectors: lines `LEAF A B C D` for the program under test, and its expected lines.
 
-Each leaf has the domain of its arguments, its answer (from document.py), document
-01's own figures for it, and its edges: points at equality or at a whole quotient
-with those one to either side. The two ends of each range, combined, and random
-points with a fixed seed come from the domain.
+Each leaf has the domain of its arguments, its answer (from document.py; leaf 40's
+from ground.py), the documents' own figures for it (document 01's; request S-2's for
+leaf 40), and its edges: points at equality or at a whole quotient with those one to
+either side. The two ends of each range, combined, and random points with a fixed
+seed come from the domain.
 """
 
 from fractions import Fraction
-from itertools import product
+from itertools import cycle, pairwise, product
 from math import ceil, floor, gcd, prod
 from random import Random
 from typing import Callable, NamedTuple
 
 import document as doc
+import ground
 
-MOST_STDIN_BYTES = 500_000
+MOST_STDIN_BYTES = 524_288    # the buffer of the program under test
 ARGUMENTS = 4          # on a line; the unused ones are 0
 RANDOM_POINTS = 220    # new ones for each leaf
 USUAL_POINTS = 60      # more of them, where only a part of the domain is of interest
@@ -24,6 +26,7 @@ WHOLE_DOMAIN = 400     # a domain up to this size is taken whole
 # --- Ranges -------------------------------------------------------------------
 
 SIGN = (0, 1)                               # 1 means minus
+BYTE = (0, 255)
 U32 = (0, 2**32 - 1)
 WORD = (0, 18_446_744_073_709_551_609)      # "all below 18446744073709551610"
 SIZE = (0, 2**63 - 1)
@@ -51,6 +54,8 @@ T = (0, 13_387_754_000)
 LEAST_PULL = -1_666_666                     # W greatest, no moment, N 6
 PULL = (0, 800_000_000_000)                 # moment greatest, B 1, N 6
 A = (1, 2_500)
+MAPPED = (0, ground.MOST_MAPPED)            # Ss or S1, where it is not refused
+CLASSES = tuple(map(ord, ground.CLASSES))
 
 # --- Writing ------------------------------------------------------------------
 
@@ -88,6 +93,13 @@ def standard_site_text(speed):
     if speed not in chart:
         return refusal_text(doc.FIELD_REFUSAL, doc.WIND_FIELD)
     return decimal(chart[speed])
+
+
+def ground_text(site_class, Ss, S1):
+    refusal = ground.refusal_of(site_class, Ss, S1)
+    if refusal is not None:
+        return refusal_text(*refusal)
+    return " ".join(map(decimal, ground.ground_motion(site_class, Ss, S1)))
 
 
 # --- Making points ------------------------------------------------------------
@@ -486,13 +498,121 @@ def strength_edges(rng):
         yield from ((near, area) for near in beside(pull))
 
 
+# --- Edges of the ground leaf -------------------------------------------------
+
+TOO_LARGE = (MAPPED[1] + 1, 2**16, 2**31, U32[1])       # for Ss or S1
+NEARLY = Fraction(1, 500)                               # of a thousandth of g
+
+
+def class_edges():
+    """Every byte as class, with good figures and with bad ones."""
+    for site_class in range(BYTE[0], BYTE[1] + 1):
+        yield site_class, 240, 93
+        yield site_class, MAPPED[1] + 1, MAPPED[1] + 1
+    for letter in "@ABCDEF`abcdef":     # the capital letters, the small ones and those beside
+        yield ord(letter), MAPPED[1] + 1, 93
+        yield ord(letter), 240, MAPPED[1] + 1
+
+
+def too_large_edges():
+    """Ss alone too large, S1 alone, both, neither."""
+    figures = (*MAPPED, *TOO_LARGE)
+    return product(CLASSES, figures, figures)
+
+
+def columns_of(chart):
+    """In thousandths."""
+    return [int(1_000 * column) for column in chart.columns]
+
+
+def between_columns(chart):
+    return [(left + right) // 2 for left, right in pairwise(columns_of(chart))]
+
+
+def chart_figures(chart):
+    """Of Ss or S1: the columns, mid-way between them, both ends of the range."""
+    return [*columns_of(chart), *between_columns(chart), *MAPPED]
+
+
+def chart_edges(chart):
+    """Of Ss or S1: the columns and the ends of the range with one to either side; the largest."""
+    columns = [near for column in columns_of(chart) for near in beside(column)]
+    return [*columns, 0, 1, *beside(MAPPED[1]), U32[1]]
+
+
+def column_edges():
+    """The figures of both charts as a product; the edges of each with the other's figures."""
+    Ss_figures, S1_figures = chart_figures(ground.FA), chart_figures(ground.FV)
+    for site_class in CLASSES:
+        for Ss, S1 in product(Ss_figures, S1_figures):
+            yield site_class, Ss, S1
+        for Ss, S1 in zip(chart_edges(ground.FA), cycle(S1_figures)):
+            yield site_class, Ss, S1
+        for Ss, S1 in zip(cycle(Ss_figures), chart_edges(ground.FV)):
+            yield site_class, Ss, S1
+
+
+def vertical_edges(site_class):
+    """Each Ss with 0.14 SDS a whole number of thousandths or nearly so, and one to either side;
+    each where SDS rounded up to a thousandth first would give another Av. On the way every
+    figure is taken for Ss and for S1, so that ground.whole_over has seen them all."""
+    for Ss in range(MAPPED[0], MAPPED[1] + 1):
+        motion = ground.ground_motion(site_class, Ss, Ss)
+        assert AV[0] <= motion.Av <= AV[1]      # it may be stated as field 10
+        SDS = Fraction(motion.SDS, ground.SDS_DENOMINATOR)
+        exact = ground.exact_vertical(SDS)
+        if abs(exact - round(exact)) < NEARLY:
+            yield from beside(Ss)
+        rounded_first = Fraction(ceil(1_000 * SDS), 1_000)
+        if ground.vertical_acceleration(rounded_first) != motion.Av:
+            yield Ss
+
+
+def up_to_columns(chart):
+    """From 0 to one past the last column."""
+    return 0, columns_of(chart)[-1] + 1
+
+
+def sloping_figures(chart, site_class):
+    """All of these for a class whose coefficient is not the same at all columns."""
+    least, greatest = up_to_columns(chart)
+    same = len(set(chart.rows[chr(site_class)])) == 1
+    return [] if same else list(range(least, greatest + 1))
+
+
+def filled_up(rng, figures, count, limits):
+    """Draws after the figures, where there are fewer than the count."""
+    return [*figures, *(even_draw(rng, limits) for _ in range(count - len(figures)))]
+
+
+def slope_edges(rng):
+    """Side by side: Ss at the edges of Av, S1 along the lines of Fv, each filled up from its
+    chart's own lines."""
+    for site_class in CLASSES:
+        Ss_edges = sorted(set(vertical_edges(site_class)))
+        rng.shuffle(Ss_edges)
+        S1_edges = sloping_figures(ground.FV, site_class)
+        count = max(len(Ss_edges), len(S1_edges))
+        Ss_figures = filled_up(rng, Ss_edges, count, up_to_columns(ground.FA))
+        S1_figures = filled_up(rng, S1_edges, count, up_to_columns(ground.FV))
+        for Ss, S1 in zip(Ss_figures, S1_figures, strict=True):
+            yield site_class, Ss, S1
+
+
+def ground_edges(rng):
+    yield from class_edges()
+    yield from too_large_edges()
+    yield from column_edges()
+    yield from slope_edges(rng)
+
+
 # --- The leaves ---------------------------------------------------------------
 
 
 class Leaf(NamedTuple):
     domain: tuple                               # the range of each argument
     answer: Callable                            # of the arguments: the line to be written
-    figures: tuple                              # document 01's own
+    figures: tuple                              # the documents' own
     edges: Callable                             # of the random numbers: points
     usual: tuple = ()                           # a part of the domain, for more random points
     allowed: Callable = lambda point: True      # where the ranges alone do not say it
@@ -701,6 +821,13 @@ LEAVES = {
         ((73_371, 11_000, 14_400), (73_371, 18_342, 14_400), (73_371, 18_343, 14_400)),
         self_wind_edges,
     ),
+    40: Leaf(
+        (BYTE, U32, U32),
+        ground_text,
+        ((ord("C"), 240, 93),),
+        ground_edges,
+        usual=((CLASSES[0], CLASSES[-1]), MAPPED, MAPPED),
+    ),
 }
 
 # --- Points and lines ---------------------------------------------------------
@@ -759,3 +886,13 @@ def answer(line):
 
 def as_bytes(lines):
     return "".join(line + "\n" for line in lines).encode("ascii")
+
+
+# --- Self test: leaf 12 -------------------------------------------------------
+
+
+def self_test():
+    """Every refusal of the list with every field: the domain is small enough to be taken whole."""
+    places, fields = (range(least, greatest + 1) for least, greatest in LEAVES[12].domain)
+    assert len(places) == len(doc.REFUSALS) and len(fields) == 1 + len(doc.FIELD_RANGES)
+    assert sorted(leaf_points(12)) == list(product(places, fields))

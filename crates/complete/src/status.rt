@@ -8,13 +8,13 @@ ghost use Rattle.sheet.specs.Complete.{noEntries, completedOf, completedCode, s
 ghost use Rattle.sheet.specs.Reading.{readCompleted, bytesCode};
 use entries::Anchors;
 use entries::AnchorsEntry;
-use entries::Answer;
 use entries::Course;
 use entries::Sheet;
 use entries::Site;
 use entries::SiteEntry;
 use entries::Tank;
 use entries::TankEntry;
+use fields::Answer;
 use fields::Refusal;
 use parts::slots;
 use sheet::complete::Completed;

@@ -1,4 +1,3 @@
 -- The laws that callers' proofs cite.
-pub mod OrderLaws
 pub mod CourseLaws
 pub mod FieldLaws

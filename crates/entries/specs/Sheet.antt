@@ -7,7 +7,7 @@ use lib.Dec.{leb, ltb, eqb}
 use lib.ListN.{replicate, take}
 use Rattle.fields.specs.Bolt.{inChart}
 use Rattle.fields.specs.declared.refusal.Refusal.the-variants.{AllowanceNotBelowPlate, BadAnchors, ShellTooHigh}
-use Rattle.entries.specs.Order.{Condition, _when_, Figure, _is_, values, outside}
+use Rattle.fields.specs.Order.{Condition, _when_, Figure, _is_, values, outside}
 use Rattle.entries.specs.declared.sheet.Tank.{Tank}
 use Rattle.entries.specs.declared.sheet.Site.{Site}
 use Rattle.entries.specs.declared.sheet.Anchors.{Anchors}

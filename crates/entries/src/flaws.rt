@@ -3,27 +3,15 @@
 ghost use mathlib.Core.Path.{_≡_};
 ghost use mathlib.Core.Bool.{not};
 ghost use Rattle.fields.specs.Range.{range, within};
-ghost use Rattle.entries.specs.Order.{_when_, firstOf, orElse, answerCode, firstCode};
+ghost use Rattle.fields.specs.Order.{_when_, firstOf, orElse, answerCode, firstCode};
 ghost use Rattle.entries.specs.Sheet.{badAnchors, tankFlaws, siteFlaws, anchorFlaws, courseFlaws};
-use crate::answer::Answer;
 use crate::sheet::Anchors;
 use crate::sheet::Course;
 use crate::sheet::Site;
 use crate::sheet::Tank;
+use fields::Answer;
 use fields::Refusal;
-
-// The refusal that was found first, or this one where its condition applies.
-pub fn or_else(first: Answer, refusal: Refusal, applies: bool) -> Answer
-    ensures { λ r. ⌜ r ≡ orElse first (refusal when applies) ⌝ }
-{
-    let Answer::Accepted = first else {
-        return first;
-    };
-    if applies {
-        return Answer::Refused(refusal);
-    }
-    Answer::Accepted
-}
+use fields::or_else;
 
 // The refusal that was found first, or 16 where this figure is outside the range of its field. The callers give
 // the field as a literal, so that its range is two constants of the machine code.

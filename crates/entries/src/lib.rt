@@ -1,10 +1,8 @@
-// What a check sheet is made of: its entries and the sheet that holds them, what the figures of a step are
-// refused for, and orders of refusals. Nothing here knows bytes, steps or rules.
-mod answer;
+// What a check sheet is made of: its entries and the sheet that holds them, and what the figures of a step are
+// refused for. Nothing here knows bytes, steps or rules.
 pub mod flaws;
 mod sheet;
 
-pub use answer::Answer;
 pub use sheet::Anchors;
 pub use sheet::AnchorsEntry;
 pub use sheet::Course;

@@ -2,3 +2,4 @@
 pub mod RangeLaws
 pub mod BoltLaws
 pub mod RefusalLaws
+pub mod OrderLaws

@@ -5,7 +5,7 @@ use mathlib.Core.Bool.{false}
 use lib.Dec.{eqb}
 use Rattle.fields.specs.Refusal.{codeOf}
 use Rattle.fields.specs.declared.refusal.Refusal.{Refusal}
-use Rattle.fields.specs.declared.refusal.Refusal.the-variants.{TooFewBytes, TooManyBytes, BadLength, BadVersion, BadCount, OutOfRange, AllowanceNotBelowPlate, BadAnchors, BufferTooShort, Unreachable, TankStated, NoTank, CoursesFull, ShellTooHigh, NoCourse, NoSite, WaterAboveShell, AnchorsUnstated}
+use Rattle.fields.specs.declared.refusal.Refusal.the-variants.{TooFewBytes, TooManyBytes, BadLength, BadVersion, BadCount, OutOfRange, AllowanceNotBelowPlate, BadAnchors, BufferTooShort, Unreachable, TankStated, NoTank, CoursesFull, ShellTooHigh, NoCourse, NoSite, WaterAboveShell, AnchorsUnstated, FigureOutOfRange, BadSiteClass}
 
 pub never-zero : (r : Refusal) → eqb (codeOf r .number) 0 ≡ false
 never-zero TooFewBytes = refl
@@ -26,3 +26,5 @@ never-zero NoCourse = refl
 never-zero NoSite = refl
 never-zero WaterAboveShell = refl
 never-zero AnchorsUnstated = refl
+never-zero FigureOutOfRange = refl
+never-zero BadSiteClass = refl

@@ -1,3 +1,4 @@
 pub mod Range
 pub mod Bolt
 pub mod Refusal
+pub mod Order

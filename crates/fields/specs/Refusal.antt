@@ -3,7 +3,7 @@
 use Prim.Native.Nat.{ℕ}
 use Rattle.fields.specs.declared.refusal.Code.{Code}
 use Rattle.fields.specs.declared.refusal.Refusal.{Refusal}
-use Rattle.fields.specs.declared.refusal.Refusal.the-variants.{TooFewBytes, TooManyBytes, BadLength, BadVersion, BadCount, OutOfRange, AllowanceNotBelowPlate, BadAnchors, BufferTooShort, Unreachable, TankStated, NoTank, CoursesFull, ShellTooHigh, NoCourse, NoSite, WaterAboveShell, AnchorsUnstated}
+use Rattle.fields.specs.declared.refusal.Refusal.the-variants.{TooFewBytes, TooManyBytes, BadLength, BadVersion, BadCount, OutOfRange, AllowanceNotBelowPlate, BadAnchors, BufferTooShort, Unreachable, TankStated, NoTank, CoursesFull, ShellTooHigh, NoCourse, NoSite, WaterAboveShell, AnchorsUnstated, FigureOutOfRange, BadSiteClass}
 
 -- the number alone
 abbrev pub plain : ℕ → Code
@@ -28,3 +28,5 @@ codeOf NoCourse = plain 35
 codeOf NoSite = plain 36
 codeOf WaterAboveShell = plain 37
 codeOf AnchorsUnstated = plain 38
+codeOf FigureOutOfRange = plain 40
+codeOf BadSiteClass = plain 41

@@ -1,9 +1,12 @@
-// What a check sheet is made of, with nothing of a sheet: the fields' ranges, the bolt chart and the
-// refusals.
+// What the crates above share, with nothing of a sheet: the fields' ranges, the bolt chart, the refusals and
+// what their orders answer.
+mod answer;
 mod bolt;
 mod range;
 mod refusal;
 
+pub use answer::Answer;
+pub use answer::or_else;
 pub use bolt::stress_area;
 pub use range::in_range;
 pub use refusal::Code;

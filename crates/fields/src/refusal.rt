@@ -1,4 +1,5 @@
-// The refusals (document 01, "Refusals that come from the input" and "from the state"; 38: document 02, S-1).
+// The refusals (document 01, "Refusals that come from the input" and "from the state"; document 02: 38 of S-1,
+// 40 and 41 of S-2).
 ghost use mathlib.Core.Path.{_≡_};
 ghost use Rattle.fields.specs.Refusal.{codeOf, plain};
 
@@ -22,6 +23,9 @@ pub enum Refusal {
     NoSite,
     WaterAboveShell,
     AnchorsUnstated,
+    // A figure of a question without a sheet is outside its range; no field is given.
+    FigureOutOfRange,
+    BadSiteClass,
 }
 
 // A refusal as the documents have it: its number, and the field that it gives, or 0 where it gives none.
@@ -60,6 +64,8 @@ impl Refusal {
             Refusal::NoSite => plain(36),
             Refusal::WaterAboveShell => plain(37),
             Refusal::AnchorsUnstated => plain(38),
+            Refusal::FigureOutOfRange => plain(40),
+            Refusal::BadSiteClass => plain(41),
         }
     }
 }

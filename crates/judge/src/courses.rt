@@ -5,7 +5,7 @@ ghost use lib.Dec.{T};
 ghost use lib.ListN.{take};
 ghost use Rattle.lists.specs.Pad.{padded};
 ghost use Rattle.rules.specs.Bounds.{mostHeight};
-ghost use Rattle.entries.specs.Order.{clear};
+ghost use Rattle.fields.specs.Order.{clear};
 ghost use Rattle.entries.specs.Sheet.{heightOf, tankFlaws, courseFlaws};
 ghost use Rattle.parts.specs.Parts.{coursesClear};
 ghost use Rattle.reports.specs.Report.{lineOf, linesOf, blankLine, coursesHold};

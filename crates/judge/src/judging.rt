@@ -2,15 +2,15 @@
 ghost use mathlib.Core.Path.{_≡_};
 ghost use Prim.Native.Nat.{_≤_};
 ghost use lib.ListN.{take};
-ghost use Rattle.entries.specs.Order.{answerCode};
+ghost use Rattle.fields.specs.Order.{answerCode};
 ghost use Rattle.sheet.specs.Complete.{entriesOf, coursesOf, Valid};
 ghost use Rattle.reports.specs.Report.{wordOf, reportOf};
 ghost use Rattle.reports.specs.Judging.{judged, judgedEntries, judgedCompleted, refusedFor, completedJudgeCode, judgeCode};
 ghost use Rattle.reports.specs.Meets.{Justified};
 use crate::courses;
 use crate::standing;
-use entries::Answer;
 use entries::Sheet;
+use fields::Answer;
 use fields::Refusal;
 use reports::report::CourseLine;
 use reports::report::Judgement;

@@ -3,7 +3,7 @@ ghost use mathlib.Core.Path.{_≡_};
 ghost use Prim.Native.Nat.{_≤_, _<_};
 ghost use lib.Dec.{T};
 ghost use Rattle.rules.specs.Bounds.{mostMoment};
-ghost use Rattle.entries.specs.Order.{clear};
+ghost use Rattle.fields.specs.Order.{clear};
 ghost use Rattle.entries.specs.Sheet.{tankFlaws, siteFlaws, anchorFlaws};
 ghost use Rattle.reports.specs.Figures.{resistanceOn};
 ghost use Rattle.reports.specs.Report.{selfChecks, anchorChecks, standingOf, checksOf, stands, usesOf};

@@ -8,7 +8,7 @@ use native.Mathlib.Omega.{arith}
 use lib.ListN.{length, getD, take, drop, take-append-drop, length-drop}
 use lib.Seq.{getD-drop, drop-drop, drop-at, take-add, take-all, drop-cons}
 use Rattle.fields.proofs.RangeLaws.{within-most}
-use Rattle.entries.specs.Order.{Figure, values}
+use Rattle.fields.specs.Order.{Figure, values}
 use Rattle.entries.specs.Sheet.{tankFigures, siteFigures, anchorFigures, courseFigures}
 use Rattle.entries.specs.declared.sheet.Tank.{Tank}
 use Rattle.entries.specs.declared.sheet.Site.{Site}

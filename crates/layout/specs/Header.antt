@@ -7,7 +7,7 @@ use Prim.Native.Nat.{ℕ, zero, suc, _+_, _-_, _/_, _≤_}
 use lib.Dec.{leb, ltb, eqb}
 use lib.ListN.{length, getD, drop}
 use Rattle.fields.specs.declared.refusal.Refusal.the-variants.{TooFewBytes, TooManyBytes, BadLength, BadVersion, BadCount}
-use Rattle.entries.specs.Order.{Condition, _when_}
+use Rattle.fields.specs.Order.{Condition, _when_}
 use Rattle.entries.specs.declared.sheet.Tank.{Tank}
 use Rattle.entries.specs.declared.sheet.Site.{Site}
 use Rattle.entries.specs.declared.sheet.Anchors.{Anchors}

@@ -3,16 +3,16 @@
 ghost use mathlib.Core.Path.{_≡_};
 ghost use Prim.Native.Nat.{_+_, _≤_};
 ghost use lib.ListN.{length, drop};
-ghost use Rattle.entries.specs.Order.{firstOf, answerCode, firstCode};
+ghost use Rattle.fields.specs.Order.{firstOf, answerCode, firstCode};
 ghost use Rattle.layout.specs.Numbers.{twoIn, fourIn};
 ghost use Rattle.layout.specs.Layout.{version1};
 ghost use Rattle.layout.specs.Header.{tankIn, siteIn, anchorsIn, courseIn, countOf, isLength, readOrder};
 use entries::Anchors;
-use entries::Answer;
 use entries::Course;
 use entries::MOST_COURSES;
 use entries::Site;
 use entries::Tank;
+use fields::Answer;
 use fields::Refusal;
 
 // What the bytes are refused for before any step: 11 for under two bytes, 13, 11, 12, 14, 15.

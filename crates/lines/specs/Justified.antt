@@ -5,7 +5,7 @@ use mathlib.Core.Path.{_≡_}
 use Prim.Native.Nat.{ℕ}
 use Rattle.lists.specs.Ascii.{ascii}
 use Rattle.fields.specs.Refusal.{plain}
-use Rattle.entries.specs.Order.{answerCode}
+use Rattle.fields.specs.Order.{answerCode}
 use Rattle.sheet.specs.declared.complete.Entries.{Entries}
 use Rattle.reports.specs.Meets.{noMargins, MeetsWith, marginsOf}
 use Rattle.reports.specs.declared.report.Judgement.{Judgement}

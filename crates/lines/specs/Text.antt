@@ -9,8 +9,8 @@ use Rattle.fields.specs.declared.refusal.Code.{Code}
 use Rattle.stability.specs.Earthquake.{upliftWord}
 use Rattle.rules.specs.Verdict.{verdictWord}
 use Rattle.lists.specs.Ascii.{ascii}
-use Rattle.entries.specs.declared.answer.Answer.{Answer}
-use Rattle.entries.specs.declared.answer.Answer.the-variants.{Accepted, Refused}
+use Rattle.fields.specs.declared.answer.Answer.{Answer}
+use Rattle.fields.specs.declared.answer.Answer.the-variants.{Accepted, Refused}
 use Rattle.reports.specs.Report.{tankWord}
 use Rattle.reports.specs.declared.report.CourseLine.{CourseLine}
 use Rattle.reports.specs.declared.report.SelfChecks.{SelfChecks}

@@ -9,7 +9,7 @@ ghost use Rattle.rules.specs.Verdict.{verdictWord};
 ghost use Rattle.lines.specs.Text.{line, more, text, courseLine, courseLines, windLine, pullLine, anchorLine, selfLine, standingLines, tankLine, reportLines, codeFigures, refusalLine, textOf, mostText};
 ghost use Rattle.words.specs.Decimal.{decimal};
 ghost use Rattle.words.specs.Stored.{Stored};
-use entries::Answer;
+use fields::Answer;
 use fields::Code;
 use fields::Refusal;
 use reports::report::AnchorChecks;

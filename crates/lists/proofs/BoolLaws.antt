@@ -1,7 +1,7 @@
--- The laws of tests: one that passed, several at once, and two of which one fails.
+-- The laws of tests: one that passed, several at once, two of which one fails, and two that both fail.
 -- Assumes nothing.
 use mathlib.Core.Path.{_≡_, refl, sym, subst}
-use mathlib.Core.Bool.{Bool, true, false, _&&_}
+use mathlib.Core.Bool.{Bool, true, false, _&&_, _||_}
 use mathlib.Core.Logic.{_⊎_, inl, inr}
 use lib.Dec.{T}
 use mir.Facts.{and-yes, yes-and}
@@ -27,3 +27,10 @@ module _ (a b : Bool) where
 
   pub both-hold : (a && b) ≡ true → (a ≡ true) × (b ≡ true)
   both-hold e = let h = and-yes a b (subst T (sym e) tt) in (T-true a (h .0), T-true b (h .1))
+
+  pub both-fail : (a || b) ≡ false → (a ≡ false) × (b ≡ false)
+  both-fail e = go a e
+    where
+      go : (x : Bool) → (x || b) ≡ false → (x ≡ false) × (b ≡ false)
+      go true e = absurd (subst T e tt)
+      go false e = (refl, e)

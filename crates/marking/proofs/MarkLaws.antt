@@ -7,11 +7,11 @@ use Prim.Native.Nat.{ℕ}
 use Rattle.fields.specs.declared.refusal.Code.{Code}
 use Rattle.fields.specs.declared.refusal.Refusal.{Refusal}
 use Rattle.fields.proofs.RefusalLaws.{never-zero}
-use Rattle.entries.specs.Order.{First, answerCode}
+use Rattle.fields.specs.Order.{First, answerCode}
 use Rattle.entries.specs.declared.sheet.Sheet.{Sheet}
-use Rattle.entries.specs.declared.answer.Answer.{Answer}
-use Rattle.entries.specs.declared.answer.Answer.the-variants.{Accepted, Refused}
-use Rattle.entries.proofs.OrderLaws.{clash}
+use Rattle.fields.specs.declared.answer.Answer.{Answer}
+use Rattle.fields.specs.declared.answer.Answer.the-variants.{Accepted, Refused}
+use Rattle.fields.proofs.OrderLaws.{clash}
 use Rattle.sheet.specs.Complete.{entriesOf, completedOf, Valid}
 use Rattle.sheet.specs.Reading.{readIn, readCode, unlessCode, completedFrom, readCompleted}
 use Rattle.sheet.specs.declared.complete.Completeness as Status

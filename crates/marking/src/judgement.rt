@@ -1,6 +1,6 @@
 // From the bytes of a sheet to its judgement.
 ghost use mathlib.Core.Path.{_≡_};
-ghost use Rattle.entries.specs.Order.{answerCode};
+ghost use Rattle.fields.specs.Order.{answerCode};
 ghost use Rattle.sheet.specs.Complete.{entriesOf};
 ghost use Rattle.sheet.specs.Reading.{readIn};
 ghost use Rattle.reports.specs.Meets.{Justified};

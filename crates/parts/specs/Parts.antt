@@ -7,7 +7,7 @@ use Prim.Native.Nat.{ℕ}
 use lib.Dec.{leb, eqb}
 use lib.ListN.{length, take, drop}
 use Rattle.lists.specs.Each.{each}
-use Rattle.entries.specs.Order.{clear}
+use Rattle.fields.specs.Order.{clear}
 use Rattle.entries.specs.Sheet.{heightOf, tankFlaws, siteFlaws, anchorFlaws, courseFlaws, courseFigures}
 use Rattle.entries.specs.declared.sheet.Course.{Course}
 use Rattle.entries.specs.declared.sheet.TankEntry as TankEntry

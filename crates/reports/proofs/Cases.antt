@@ -12,7 +12,7 @@ use Rattle.stability.specs.Earthquake.{shellExact, shellWeight, rootMost, botto
 use Rattle.rules.specs.Hoop.{headOf, hoopExact, hoopNeed}
 use Rattle.rules.specs.Verdict.{verdictOf}
 use Rattle.rules.specs.Wind.{pressureOf}
-use Rattle.entries.specs.Order.{answerCode, clear}
+use Rattle.fields.specs.Order.{answerCode, clear}
 use Rattle.entries.specs.Sheet.{badAnchors, tankFlaws, siteFlaws, anchorFlaws, courseFlaws}
 use Rattle.parts.specs.Parts.{coursesClear, coursesBlank, slotsReachable}
 use Rattle.sheet.specs.Steps.{reachable}

@@ -12,11 +12,11 @@ use Rattle.lists.specs.Ascii.{ascii}
 use Rattle.fields.specs.Refusal.{plain}
 use Rattle.fields.specs.declared.refusal.Refusal.{Refusal}
 use Rattle.fields.proofs.RefusalLaws.{never-zero}
-use Rattle.entries.specs.Order.{firstOf, answerCode, firstCode}
-use Rattle.entries.specs.declared.answer.Answer.{Answer}
+use Rattle.fields.specs.Order.{firstOf, answerCode, firstCode}
+use Rattle.fields.specs.declared.answer.Answer.{Answer}
 use Rattle.entries.specs.declared.sheet.Sheet.{Sheet}
-use Rattle.entries.specs.declared.answer.Answer.the-variants.{Accepted, Refused}
-use Rattle.entries.proofs.OrderLaws.{clash, first-code, accepted-code}
+use Rattle.fields.specs.declared.answer.Answer.the-variants.{Accepted, Refused}
+use Rattle.fields.proofs.OrderLaws.{clash, first-code, accepted-code}
 use Rattle.sheet.specs.Complete.{entriesOf, coursesOf, completedOf, statusCode, Valid}
 use Rattle.sheet.specs.declared.complete.Entries.{Entries}
 use Rattle.sheet.specs.declared.complete.Completeness as Status

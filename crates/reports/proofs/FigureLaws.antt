@@ -20,7 +20,7 @@ use Rattle.stability.proofs.Bounds.{shell-most, bottom-most, resistance-most, r
 use Rattle.stability.proofs.EarthquakeLaws.{root-fits, resistance-safe, resistance-near}
 use Rattle.rules.proofs.HoopLaws.{hoop-rounded}
 use Rattle.rules.proofs.WindLaws.{moment-rounded, moment-den, moment-margin-den}
-use Rattle.entries.specs.Order.{clear}
+use Rattle.fields.specs.Order.{clear}
 use Rattle.entries.specs.Sheet.{tankFlaws, siteFlaws, anchorFlaws, courseFlaws}
 use Rattle.entries.specs.declared.sheet.Tank.{Tank}
 use Rattle.entries.specs.declared.sheet.Site.{Site}

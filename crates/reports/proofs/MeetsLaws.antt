@@ -25,7 +25,7 @@ use Rattle.stability.proofs.AnchorLaws.{larger-is}
 use Rattle.rules.proofs.HoopLaws.{required-meets, required-least}
 use Rattle.rules.proofs.VerdictLaws.{course-holds}
 use Rattle.stability.proofs.CheckLaws.{self-wind-holds, quake-holds, spacing-holds, strength-holds}
-use Rattle.entries.specs.Order.{clear}
+use Rattle.fields.specs.Order.{clear}
 use Rattle.entries.specs.Sheet.{heightOf, tankFlaws, anchorFlaws, courseFlaws}
 use Rattle.parts.specs.Parts.{coursesClear}
 use Rattle.sheet.specs.Complete.{coursesOf, Valid}

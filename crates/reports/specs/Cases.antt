@@ -9,7 +9,7 @@ use Rattle.fields.specs.declared.refusal.Code.{Code}
 use Rattle.stability.specs.Earthquake.{upliftWord}
 use Rattle.rules.specs.Verdict.{verdictWord}
 use Rattle.rules.specs.Words.{ok-word, short-word, none-word, lift-word, over-word}
-use Rattle.entries.specs.Order.{answerCode}
+use Rattle.fields.specs.Order.{answerCode}
 use Rattle.entries.specs.Sheet.{blankCourse, noAnchors}
 use Rattle.entries.specs.declared.sheet.Anchors.{Anchors}
 use Rattle.entries.specs.declared.sheet.Course.{Course}

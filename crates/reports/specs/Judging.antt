@@ -5,10 +5,10 @@ use lib.Dec.{ltb, eqb}
 use Rattle.fields.specs.declared.refusal.Code.{Code}
 use Rattle.fields.specs.declared.refusal.Refusal.{Refusal}
 use Rattle.fields.specs.declared.refusal.Refusal.the-variants.{Unreachable, WaterAboveShell}
-use Rattle.entries.specs.Order.{Condition, _when_, firstOf, firstCode}
+use Rattle.fields.specs.Order.{Condition, _when_, firstOf, firstCode}
 use Rattle.entries.specs.declared.sheet.Sheet.{Sheet}
-use Rattle.entries.specs.declared.answer.Answer.{Answer}
-use Rattle.entries.specs.declared.answer.Answer.the-variants.{Accepted, Refused}
+use Rattle.fields.specs.declared.answer.Answer.{Answer}
+use Rattle.fields.specs.declared.answer.Answer.the-variants.{Accepted, Refused}
 use Rattle.sheet.specs.Complete.{completeOrder, entriesOf, coursesOf, statusCode}
 use Rattle.sheet.specs.declared.complete.Entries.{Entries}
 use Rattle.sheet.specs.declared.complete.Completeness as Status

@@ -11,7 +11,7 @@ use Rattle.stability.specs.Anchors.{pullMargin}
 use Rattle.stability.specs.Earthquake.{resistanceMargin}
 use Rattle.rules.specs.Hoop.{plateFloor, plateMargin}
 use Rattle.rules.specs.Wind.{momentMargin}
-use Rattle.entries.specs.Order.{answerCode}
+use Rattle.fields.specs.Order.{answerCode}
 use Rattle.entries.specs.Sheet.{heightOf}
 use Rattle.entries.specs.declared.sheet.Tank.{Tank}
 use Rattle.entries.specs.declared.sheet.Site.{Site}

@@ -2,7 +2,7 @@
 // lines print, and the uses).
 ghost use mathlib.Core.Path.{_≡_};
 ghost use Rattle.reports.specs.Report.{blankLine, blankReport};
-use entries::Answer;
+use fields::Answer;
 use rules::verdict::Verdict;
 use stability::earthquake::Uplift;
 

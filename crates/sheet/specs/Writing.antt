@@ -8,10 +8,10 @@ use lib.ListN.{length, drop}
 use Rattle.fields.specs.Refusal.{plain, codeOf}
 use Rattle.fields.specs.declared.refusal.Code.{Code}
 use Rattle.fields.specs.declared.refusal.Refusal.the-variants.{BufferTooShort}
-use Rattle.entries.specs.Order.{Condition, _when_, firstOf, firstCode}
+use Rattle.fields.specs.Order.{Condition, _when_, firstOf, firstCode}
 use Rattle.entries.specs.declared.sheet.Sheet.{Sheet}
-use Rattle.entries.specs.declared.answer.Answer.{Answer}
-use Rattle.entries.specs.declared.answer.Answer.the-variants.{Accepted, Refused}
+use Rattle.fields.specs.declared.answer.Answer.{Answer}
+use Rattle.fields.specs.declared.answer.Answer.the-variants.{Accepted, Refused}
 use Rattle.layout.specs.Layout.{version1, wholeLength, layout}
 use Rattle.sheet.specs.Complete.{completeOrder, entriesOf, coursesOf}
 use Rattle.sheet.specs.declared.complete.Entries.{Entries}

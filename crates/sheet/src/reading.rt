@@ -4,7 +4,7 @@
 ghost use mathlib.Core.Path.{_≡_};
 ghost use Prim.Native.Nat.{_≤_};
 ghost use lib.ListN.{length};
-ghost use Rattle.entries.specs.Order.{answerCode};
+ghost use Rattle.fields.specs.Order.{answerCode};
 ghost use Rattle.entries.specs.Sheet.{emptySheet};
 ghost use Rattle.layout.specs.Layout.{version1, tailLength};
 ghost use Rattle.layout.specs.Header.{Header};
@@ -14,7 +14,6 @@ use crate::steps;
 use crate::steps::Reply;
 use entries::Anchors;
 use entries::AnchorsEntry;
-use entries::Answer;
 use entries::Course;
 use entries::Sheet;
 use entries::Site;
@@ -22,6 +21,7 @@ use entries::SiteEntry;
 use entries::Tank;
 use entries::TankEntry;
 use entries::flaws;
+use fields::Answer;
 use fields::Refusal;
 
 // The answer to reading, the sheet, and the height of its courses.

@@ -3,13 +3,12 @@
 ghost use mathlib.Core.Path.{_≡_};
 ghost use mathlib.Core.List.{[], _∷_, _++_};
 ghost use Prim.Native.Nat.{_≤_};
-ghost use Rattle.entries.specs.Order.{firstOf, answerCode, firstCode};
+ghost use Rattle.fields.specs.Order.{firstOf, answerCode, firstCode};
 ghost use Rattle.entries.specs.Sheet.{tooHigh, held, heightOf, courseFlaws};
 ghost use Rattle.sheet.specs.Steps.{Step, orderOf, replied, refused, applied, anchorsAfter, unreachable, stated};
 use crate::reach;
 use entries::Anchors;
 use entries::AnchorsEntry;
-use entries::Answer;
 use entries::Course;
 use entries::MOST_COURSES;
 use entries::MOST_HEIGHT;
@@ -19,7 +18,9 @@ use entries::SiteEntry;
 use entries::Tank;
 use entries::TankEntry;
 use entries::flaws;
+use fields::Answer;
 use fields::Refusal;
+use fields::or_else;
 use parts::slots;
 
 // The answer to a step, or to reading, and the sheet after it.
@@ -175,7 +176,7 @@ pub(crate) fn added_flaw(height: u64, c: Course) -> Answer
     ensures { λ r. ⌜ r ≡ firstOf (courseFlaws c ++ tooHigh height c ∷ []) ⌝ }
 {
     let too_high = MOST_HEIGHT < height + c.width as u64;
-    flaws::or_else(flaws::course_flaw(c), Refusal::ShellTooHigh, too_high)
+    or_else(flaws::course_flaw(c), Refusal::ShellTooHigh, too_high)
 }
 
 // The caller hands in the height of the courses held, which its test for 30 bounds.

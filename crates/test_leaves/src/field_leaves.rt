@@ -14,7 +14,7 @@ pub(crate) fn answer(leaf: u64, a: u64, b: u64) {
     }
 }
 
-// The refusals by their numbers.
+// The refusals in the order of their numbers.
 fn refusal(place: u64, field: u32) -> Refusal {
     match place {
         0 => Refusal::TooFewBytes,
@@ -34,6 +34,8 @@ fn refusal(place: u64, field: u32) -> Refusal {
         14 => Refusal::NoCourse,
         15 => Refusal::NoSite,
         16 => Refusal::WaterAboveShell,
-        _ => Refusal::AnchorsUnstated,
+        17 => Refusal::AnchorsUnstated,
+        18 => Refusal::FigureOutOfRange,
+        _ => Refusal::BadSiteClass,
     }
 }

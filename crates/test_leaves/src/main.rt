@@ -5,6 +5,7 @@ mod clamp;
 mod exact_leaves;
 mod field_leaves;
 mod print;
+mod question_leaves;
 mod rule_leaves;
 
 use libc::STDIN_FILENO;
@@ -52,7 +53,11 @@ fn answer(leaf: u64, a: u64, b: u64, c: u64, d: u64) {
         field_leaves::answer(leaf, a, b);
         return;
     }
-    rule_leaves::answer(leaf, a, b, c, d);
+    if leaf < 40 {
+        rule_leaves::answer(leaf, a, b, c, d);
+        return;
+    }
+    question_leaves::answer(leaf, a, b, c);
 }
 
 // The digits from `from` on, and the byte that ends them.

@@ -1,5 +1,6 @@
 // A reply as a line of text.
 use fields::Code;
+use ground::DesignValues;
 use libc::STDOUT_FILENO;
 use rules::verdict::Verdict;
 use stability::earthquake::Uplift;
@@ -66,4 +67,12 @@ pub(crate) fn refusal(code: Code) {
     io::print_decimal(STDOUT_FILENO, code.number as u64);
     io::write_all(STDOUT_FILENO, b" ");
     number(code.field as u64);
+}
+
+pub(crate) fn design_values(v: DesignValues) {
+    io::print_decimal(STDOUT_FILENO, v.sds as u64);
+    io::write_all(STDOUT_FILENO, b" ");
+    io::print_decimal(STDOUT_FILENO, v.sd1 as u64);
+    io::write_all(STDOUT_FILENO, b" ");
+    number(v.av as u64);
 }

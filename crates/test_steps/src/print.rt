@@ -1,10 +1,10 @@
 // Replies as lines of text, in oracle/records.py's letters.
 use entries::AnchorsEntry;
-use entries::Answer;
 use entries::Course;
 use entries::Sheet;
 use entries::SiteEntry;
 use entries::TankEntry;
+use fields::Answer;
 use fields::Refusal;
 use libc::STDOUT_FILENO;
 use sheet::writing::Written;

@@ -12,7 +12,7 @@ use Rattle.stability.specs.Earthquake.{shellExact, shellWeight, rootMost, botto
 use Rattle.rules.specs.Hoop.{headOf, hoopExact, hoopNeed, plateFloor, requiredPlate, courseVerdict}
 use Rattle.rules.specs.Verdict.{verdictOf}
 use Rattle.rules.specs.Wind.{pressureExact, pressureOf, momentExact, momentOf}
-use Rattle.entries.specs.Order.{clear}
+use Rattle.fields.specs.Order.{clear}
 use Rattle.layout.specs.Numbers.{fourIn}
 use Rattle.layout.specs.Layout.{prefixOf, tailHead}
 use Rattle.layout.specs.Header.{isLength}

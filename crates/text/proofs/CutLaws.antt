@@ -10,10 +10,10 @@ use lib.ListN.{length, take}
 use lib.Seq.{getD-take, length-take-le}
 use Rattle.fields.specs.declared.refusal.Refusal.{Refusal}
 use Rattle.fields.specs.declared.refusal.Refusal.the-variants.{TooManyBytes, BadLength}
-use Rattle.entries.specs.Order.{firstOf}
+use Rattle.fields.specs.Order.{firstOf}
 use Rattle.entries.specs.Sheet.{emptySheet}
-use Rattle.entries.specs.declared.answer.Answer.{Answer}
-use Rattle.entries.specs.declared.answer.Answer.the-variants.{Refused}
+use Rattle.fields.specs.declared.answer.Answer.{Answer}
+use Rattle.fields.specs.declared.answer.Answer.the-variants.{Refused}
 use Rattle.layout.specs.Numbers.{twoIn}
 use Rattle.layout.specs.Layout.{version1}
 use Rattle.layout.specs.Header.{isLength, readOrder}

@@ -7,7 +7,7 @@ use lib.Seq.{length-take-le, getD-take}
 use lib.ListN.{length, getD, take, set}
 use Rattle.lists.specs.Pad.{padded}
 use Rattle.lists.proofs.PadLaws.{padded-next}
-use Rattle.entries.specs.Order.{clear}
+use Rattle.fields.specs.Order.{clear}
 use Rattle.parts.specs.Parts.{coursesClear}
 use Rattle.entries.specs.Sheet.{heightOf, blankCourse, courseFlaws}
 use Rattle.entries.proofs.CourseLaws.{height-next, top-within}

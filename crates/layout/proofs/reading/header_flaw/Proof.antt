@@ -3,7 +3,7 @@ use mathlib.Core.Path.{refl, _∙_, sym}
 use native.Mathlib.Omega.{arith}
 use borrow.Author.Tests.{not-true, not-false}
 use borrow.Author.Needs.{needs}
-use Rattle.entries.proofs.OrderLaws.{coded}
+use Rattle.fields.proofs.OrderLaws.{coded}
 use Rattle.layout.specs.Layout.{version1}
 use Rattle.layout.specs.Header.{readOrder}
 use Rattle.layout.proofs.HeaderLaws.{under-two, no-length, too-few, too-many, no-version, no-count, no-flaw, length-least}

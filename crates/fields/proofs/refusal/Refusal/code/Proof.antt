@@ -43,6 +43,10 @@ code-spec =
     (λ c κs. tt)
     (λ c. search needs)
     (λ c κs. tt)
+    (λ c. search needs)
+    (λ c κs. tt)
+    (λ c. search needs)
+    (λ c κs. tt)
     -- its code
     (λ c. rw (c .before .enum-told .given .1) (c .plain .ensures))
     (λ c. rw (c .before .enum-told2 .given .1) (c .plain2 .ensures))
@@ -61,4 +65,6 @@ code-spec =
     (λ c. rw (c .before .enum-told14 .given .1) (c .plain14 .ensures))
     (λ c. rw (c .before .enum-told15 .given .1) (c .plain15 .ensures))
     (λ c. rw (c .before .enum-told16 .given .1) (c .plain16 .ensures))
-    (λ c. rw (c .before .enum-told17 .given .1) (c .plain17 .ensures)))
+    (λ c. rw (c .before .enum-told17 .given .1) (c .plain17 .ensures))
+    (λ c. rw (c .before .enum-told18 .given .1) (c .plain18 .ensures))
+    (λ c. rw (c .before .enum-told19 .given .1) (c .plain19 .ensures)))

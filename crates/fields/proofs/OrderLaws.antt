@@ -9,13 +9,13 @@ use native.Mathlib.Nat.{le-of-suc-le-suc, not-suc-le-zero}
 use native.Mathlib.Omega.{arith}
 use lib.Dec.{T, eqb}
 use lib.ListN.{length}
 use Rattle.fields.specs.Refusal.{plain, codeOf}
 use Rattle.fields.specs.declared.refusal.Code.{Code}
 use Rattle.fields.specs.declared.refusal.Refusal.{Refusal}
 use Rattle.fields.proofs.RefusalLaws.{never-zero}
-use Rattle.entries.specs.Order.{Condition, firstOf, andThen, orElse, at, First, accepts, clear, answerCode, firstCode}
-use Rattle.entries.specs.declared.answer.Answer.{Answer}
-use Rattle.entries.specs.declared.answer.Answer.the-variants.{Accepted, Refused}
+use Rattle.fields.specs.Order.{Condition, firstOf, andThen, orElse, at, First, accepts, clear, answerCode, firstCode}
+use Rattle.fields.specs.declared.answer.Answer.{Answer}
+use Rattle.fields.specs.declared.answer.Answer.the-variants.{Accepted, Refused}
 
 -- an answer is not both
 pub clash : {X : Type 0} {r : Refusal} → Refused r ≡ Accepted → X

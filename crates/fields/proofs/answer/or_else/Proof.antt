@@ -1,7 +1,7 @@
--- `entries::flaws::or_else` meets its contract. Assumes nothing.
+-- `fields::answer::or_else` meets its contract. Assumes nothing.
 use borrow.Author.Needs.{needs}
-use Rattle.entries.proofs.flaws.or_else.Statement.{statement}
-use Rattle.entries.proofs.flaws.or_else.Tie as tie
+use Rattle.fields.proofs.answer.or_else.Statement.{statement}
+use Rattle.fields.proofs.answer.or_else.Tie as tie
 
 enum-told : tie.Need-enum-told
 enum-told c = search needs

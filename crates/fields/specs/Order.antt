@@ -5,13 +5,13 @@ use mathlib.Core.Bool.{Bool, true, false, not, cond}
 use mathlib.Core.List.{List, [], _∷_}
 use Prim.Native.Nat.{ℕ, _<_}
 use lib.ListN.{length, getD}
 use Rattle.fields.specs.Range.{range, within}
 use Rattle.fields.specs.Refusal.{plain, codeOf}
 use Rattle.fields.specs.declared.refusal.Code.{Code}
 use Rattle.fields.specs.declared.refusal.Refusal.{Refusal}
 use Rattle.fields.specs.declared.refusal.Refusal.the-variants.{OutOfRange, Unreachable}
-use Rattle.entries.specs.declared.answer.Answer.{Answer}
-use Rattle.entries.specs.declared.answer.Answer.the-variants.{Accepted, Refused}
+use Rattle.fields.specs.declared.answer.Answer.{Answer}
+use Rattle.fields.specs.declared.answer.Answer.the-variants.{Accepted, Refused}
 
 pub record Condition : Type 0 where
   pub refusal : Refusal

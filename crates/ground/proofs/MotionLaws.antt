@@ -1,0 +1,131 @@
+-- The laws of ground motion, of either chart at a stroke.
+-- Assumes nothing.
+use mathlib.Core.Path.{_≡_, refl, sym, ap, _∙_, subst}
+use mathlib.Core.Bool.{cond}
+use mathlib.Core.List.{[], _∷_}
+use mathlib.Core.Logic.{_↔_}
+use Prim.Native.Nat.{ℕ, _+_, _-_, _*_, _/_, _≤_, _<_}
+use native.Mathlib.Nat.{mul-div-cancel}
+use native.Mathlib.Omega.{arith}
+use lib.Dec.{T, leb, ltb, eqb, leb→le}
+use borrow.Author.Tests.{leb-true, ltb-false, not-false}
+use Rattle.lists.proofs.BoolLaws.{both-hold, both-fail}
+use Rattle.exact.specs.Quotient.{upOf}
+use Rattle.exact.proofs.Table.{every, at-each}
+use Rattle.exact.proofs.QuotientLaws.{rounded-up}
+use Rattle.fields.specs.Order.{firstOf, answerCode, codes, First}
+use Rattle.fields.specs.Refusal.{plain}
+use Rattle.fields.specs.declared.answer.Answer.{Answer}
+use Rattle.fields.specs.declared.answer.Answer.the-variants.{Accepted, Refused}
+use Rattle.fields.specs.declared.refusal.Code.{Code}
+use Rattle.fields.specs.declared.refusal.Refusal.{Refusal}
+use Rattle.fields.proofs.OrderLaws.{clash, first-cons, first-code, first-exactly}
+use Rattle.fields.proofs.RefusalLaws.{never-zero}
+use Rattle.ground.specs.Chart.{Chart, fa, fv, rowOf, interpolated, coefficientOf}
+use Rattle.ground.specs.Motion.{isClass, mostMapped, designExact, over, designOf, sdsOf, sd1Of, avExact, avOf, valuesOf, otherClass, tooLarge, motionOrder, givenUnless, groundMotion, noValues, motionCode, groundMotionCode, WithoutLoss, ValuesJustified, ReplyJustified}
+use Rattle.ground.proofs.ChartLaws.{interpolates, interpolation-unique}
+use Rattle.ground.specs.declared.motion.GroundMotion as GroundMotion
+use Rattle.ground.specs.declared.motion.DesignValues.{DesignValues}
+
+-- ---- the figures
+
+module _ (c : Chart) (F S : ℕ) (p : 0 < c .step) where
+  -- F is over 10 × step and S over 1,000, so two thirds of F × S are over 15,000 × step just F × S,
+  over-product : over (15000 * c .step) (designExact c F S) ≡ F * S
+  over-product =
+      let n : 2 * (F * S) * (15000 * c .step) ≡ F * S * (3 * (10 * c .step * 1000)) = omega arith in
+      ap (λ (x : ℕ). x / (3 * (10 * c .step * 1000))) n ∙ mul-div-cancel (F * S) (omega arith)
+
+  -- and nothing is lost
+  kept : over (15000 * c .step) (designExact c F S) * designExact c F S .den ≡ designExact c F S .num * (15000 * c .step)
+  kept = rw over-product (omega arith)
+
+without-loss : (c : Chart) (class S : ℕ) → 0 < c .step → WithoutLoss c (15000 * c .step) class S (designOf c (15000 * c .step) class S)
+without-loss c class S p =
+    record {
+      lines = interpolates (c .step) (rowOf c class) p;
+      exact = λ F i. rw (interpolation-unique (c .step) (rowOf c class) p F i S) (kept c (coefficientOf c class S) S p);
+    }
+
+-- so for both charts
+sds-product : (class Ss : ℕ) → sdsOf class Ss ≡ coefficientOf fa class Ss * Ss
+unfolding sdsOf
+sds-product class Ss = over-product fa (coefficientOf fa class Ss) Ss (omega arith)
+
+sd1-product : (class S1 : ℕ) → sd1Of class S1 ≡ coefficientOf fv class S1 * S1
+unfolding sd1Of
+sd1-product class S1 = over-product fv (coefficientOf fv class S1) S1 (omega arith)
+
+-- Av at every class and every Ss that is answered: one computed test
+av-tested : T (every (λ j. every (λ x. leb (avOf (sdsOf (65 + j) x)) 280) 3001) 5)
+unfolding avOf sdsOf interpolated upOf
+av-tested = tt
+
+module _ (class Ss : ℕ) (least : 65 ≤ class) (greatest : class ≤ 69) (mapped : Ss ≤ mostMapped) where
+  at-most : avOf (sdsOf class Ss) ≤ 280
+  at-most =
+      let row = at-each (λ j. every (λ x. leb (avOf (sdsOf (65 + j) x)) 280) 3001) 5 av-tested (class - 65) (omega arith) in
+      let e : 65 + (class - 65) ≡ class = omega arith in
+      subst (λ (k : ℕ). avOf (sdsOf k Ss) ≤ 280) e (leb→le _ 280 (at-each (λ x. leb (avOf (sdsOf (65 + (class - 65)) x)) 280) 3001 row Ss (omega arith)))
+
+  values-justified : (S1 : ℕ) → ValuesJustified class Ss S1 (valuesOf class Ss S1)
+  unfolding valuesOf sdsOf sd1Of avOf
+  values-justified S1 =
+      record {
+        sds-exact = without-loss fa class Ss (omega arith);
+        sd1-exact = without-loss fv class S1 (omega arith);
+        av-rounded = rounded-up (avExact (sdsOf class Ss)) (omega arith);
+        av-most = at-most;
+        av-in-range = (omega arith, omega (arith, at-most));
+      }
+
+-- the figures as they are worked out
+pub worked-out : (class Ss S1 : ℕ) {a b v : ℕ} → a ≡ coefficientOf fa class Ss * Ss
+    → b ≡ coefficientOf fv class S1 * S1 → v ≡ avOf a → record { sds = a; sd1 = b; av = v } ≡ valuesOf class Ss S1
+unfolding valuesOf
+worked-out class Ss S1 e f g = rw (g, e, f, sds-product class Ss, sd1-product class S1)
+
+-- ---- the answer
+
+refused-as : (a : Answer) (v : DesignValues) (r : Refusal) → (givenUnless a v ≡ GroundMotion.the-variants.Refused r) ↔ (a ≡ Refused r)
+refused-as Accepted v r = (λ e. absurd (let z : _≡_ {A = ℕ} 0 1 = cc in omega arith), λ e. clash (sym e))
+refused-as (Refused x) v r = (λ e. cc, λ e. cc)
+
+module _ (class Ss S1 : ℕ) where
+  -- the documents' numbers, in their order
+  pub motion-order : codes (motionOrder class Ss S1) ≡ plain 41 ∷ plain 40 ∷ []
+  motion-order = refl
+
+  -- each exactly under its condition with none before it
+  pub motion-exactly : (r : Refusal) → (groundMotion class Ss S1 ≡ GroundMotion.the-variants.Refused r) ↔ First (motionOrder class Ss S1) r
+  unfolding groundMotion
+  motion-exactly r =
+      let f = first-exactly (motionOrder class Ss S1) r in
+      let g = refused-as (firstOf (motionOrder class Ss S1)) (valuesOf class Ss S1) r in
+      (λ e. f .0 (g .0 e), λ h. g .1 (f .1 h))
+
+  motion-code : motionCode (groundMotion class Ss S1) ≡ groundMotionCode class Ss S1
+  unfolding groundMotion groundMotionCode
+  motion-code = go (firstOf (motionOrder class Ss S1)) (first-code (motionOrder class Ss S1))
+    where
+      go : (a : Answer) {p : Code} → answerCode a ≡ p
+          → motionCode (givenUnless a (valuesOf class Ss S1)) ≡ record { code = p; values = cond (eqb (p .number) 0) (valuesOf class Ss S1) noValues }
+      go Accepted e = rw (← e)
+      go (Refused r) e = rw (← e, never-zero r)
+
+  reply-justified : ReplyJustified class Ss S1 (groundMotion class Ss S1)
+  unfolding groundMotion
+  reply-justified = go (firstOf (motionOrder class Ss S1)) refl
+    where
+      go : (a : Answer) → firstOf (motionOrder class Ss S1) ≡ a → ReplyJustified class Ss S1 (givenUnless a (valuesOf class Ss S1))
+      go (Refused r) e = tt
+      go Accepted e =
+          let h = first-cons (otherClass class) (tooLarge Ss S1 ∷ []) e in
+          let known = both-hold (leb 65 class) (leb class 69) (not-false (isClass class) (h .0)) in
+          let mapped = both-fail (ltb mostMapped Ss) (ltb mostMapped S1) (first-cons (tooLarge Ss S1) [] (h .1) .0) in
+          values-justified class Ss (leb-true 65 class (known .0)) (leb-true class 69 (known .1)) (ltb-false mostMapped Ss (mapped .0)) S1
+
+  -- the further clauses of what answers as the definition does
+  pub motion-clauses : {r : GroundMotion.GroundMotion} → r ≡ groundMotion class Ss S1
+      → (r ≡ groundMotion class Ss S1) × ((motionCode r ≡ groundMotionCode class Ss S1) × ReplyJustified class Ss S1 r)
+  motion-clauses e = (e, (ap motionCode e ∙ motion-code, subst (ReplyJustified class Ss S1) (sym e) reply-justified))

@@ -1,0 +1,3 @@
+pub mod Chart
+pub mod Motion
+pub mod Cases
