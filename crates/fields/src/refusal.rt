@@ -23,7 +23,7 @@ pub enum Refusal {
     NoSite,
     WaterAboveShell,
     AnchorsUnstated,
-    // A figure of a question without a sheet is outside its range; no field is given.
+    // A figure is outside its range, where the documents give no field with it.
     FigureOutOfRange,
     BadSiteClass,
 }

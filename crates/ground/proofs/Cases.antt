@@ -5,7 +5,7 @@ use mathlib.Core.List.{[], _∷_, map}
 use Rattle.exact.specs.Quotient.{upOf}
 use Rattle.lists.specs.Ascii.{ascii}
 use Rattle.ground.specs.Chart.{fa, fv, interpolated}
-use Rattle.ground.specs.Motion.{sdsOf, sd1Of, avOf, valuesOf, groundMotion}
+use Rattle.ground.specs.Motion.{sdsOf, sd1Of, verticalOf, valuesOf, groundMotion}
 use Rattle.ground.specs.Cases.{table26, table27, scaled, atColumns, classesBelow, MotionCase, motionCases, answered}
 
 pub columns-printed : map atColumns (fa ∷ fv ∷ []) ≡ scaled 250 table26 ∷ scaled 100 table27 ∷ []
@@ -16,5 +16,5 @@ pub classes-told : classesBelow 256 ≡ ascii "ABCDE"
 classes-told = refl
 
 pub motion-cases : map answered motionCases ≡ map (λ (q : MotionCase). q .answer) motionCases
-unfolding interpolated sdsOf sd1Of avOf valuesOf groundMotion upOf
+unfolding interpolated sdsOf sd1Of verticalOf valuesOf groundMotion upOf
 motion-cases = refl

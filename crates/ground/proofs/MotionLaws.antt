@@ -22,7 +22,7 @@ use Rattle.fields.specs.declared.refusal.Refusal.{Refusal}
 use Rattle.fields.proofs.OrderLaws.{clash, first-cons, first-code, first-exactly}
 use Rattle.fields.proofs.RefusalLaws.{never-zero}
 use Rattle.ground.specs.Chart.{Chart, fa, fv, rowOf, interpolated, coefficientOf}
-use Rattle.ground.specs.Motion.{isClass, mostMapped, designExact, over, designOf, sdsOf, sd1Of, avExact, avOf, valuesOf, otherClass, tooLarge, motionOrder, givenUnless, groundMotion, noValues, motionCode, groundMotionCode, WithoutLoss, ValuesJustified, ReplyJustified}
+use Rattle.ground.specs.Motion.{isClass, mostMapped, designExact, over, designOf, sdsOf, sd1Of, verticalExact, verticalOf, valuesOf, otherClass, tooLarge, motionOrder, givenUnless, groundMotion, noValues, motionCode, groundMotionCode, WithoutLoss, ValuesJustified, ReplyJustified}
 use Rattle.ground.proofs.ChartLaws.{interpolates, interpolation-unique}
 use Rattle.ground.specs.declared.motion.GroundMotion as GroundMotion
 use Rattle.ground.specs.declared.motion.DesignValues.{DesignValues}
@@ -57,31 +57,31 @@ unfolding sd1Of
 sd1-product class S1 = over-product fv (coefficientOf fv class S1) S1 (omega arith)
 
 -- Av at every class and every Ss that is answered: one computed test
-av-tested : T (every (λ j. every (λ x. leb (avOf (sdsOf (65 + j) x)) 280) 3001) 5)
-unfolding avOf sdsOf interpolated upOf
-av-tested = tt
+vertical-tested : T (every (λ j. every (λ x. leb (verticalOf (sdsOf (65 + j) x)) 280) 3001) 5)
+unfolding verticalOf sdsOf interpolated upOf
+vertical-tested = tt
 
 module _ (class Ss : ℕ) (least : 65 ≤ class) (greatest : class ≤ 69) (mapped : Ss ≤ mostMapped) where
-  at-most : avOf (sdsOf class Ss) ≤ 280
+  at-most : verticalOf (sdsOf class Ss) ≤ 280
   at-most =
-      let row = at-each (λ j. every (λ x. leb (avOf (sdsOf (65 + j) x)) 280) 3001) 5 av-tested (class - 65) (omega arith) in
+      let row = at-each (λ j. every (λ x. leb (verticalOf (sdsOf (65 + j) x)) 280) 3001) 5 vertical-tested (class - 65) (omega arith) in
       let e : 65 + (class - 65) ≡ class = omega arith in
-      subst (λ (k : ℕ). avOf (sdsOf k Ss) ≤ 280) e (leb→le _ 280 (at-each (λ x. leb (avOf (sdsOf (65 + (class - 65)) x)) 280) 3001 row Ss (omega arith)))
+      subst (λ (k : ℕ). verticalOf (sdsOf k Ss) ≤ 280) e (leb→le _ 280 (at-each (λ x. leb (verticalOf (sdsOf (65 + (class - 65)) x)) 280) 3001 row Ss (omega arith)))
 
   values-justified : (S1 : ℕ) → ValuesJustified class Ss S1 (valuesOf class Ss S1)
-  unfolding valuesOf sdsOf sd1Of avOf
+  unfolding valuesOf sdsOf sd1Of verticalOf
   values-justified S1 =
       record {
         sds-exact = without-loss fa class Ss (omega arith);
         sd1-exact = without-loss fv class S1 (omega arith);
-        av-rounded = rounded-up (avExact (sdsOf class Ss)) (omega arith);
-        av-most = at-most;
-        av-in-range = (omega arith, omega (arith, at-most));
+        vertical-rounded = rounded-up (verticalExact (sdsOf class Ss)) (omega arith);
+        vertical-most = at-most;
+        vertical-in-range = (omega arith, omega (arith, at-most));
       }
 
 -- the figures as they are worked out
 pub worked-out : (class Ss S1 : ℕ) {a b v : ℕ} → a ≡ coefficientOf fa class Ss * Ss
-    → b ≡ coefficientOf fv class S1 * S1 → v ≡ avOf a → record { sds = a; sd1 = b; av = v } ≡ valuesOf class Ss S1
+    → b ≡ coefficientOf fv class S1 * S1 → v ≡ verticalOf a → record { sds = a; sd1 = b; vertical = v } ≡ valuesOf class Ss S1
 unfolding valuesOf
 worked-out class Ss S1 e f g = rw (g, e, f, sds-product class Ss, sd1-product class S1)
 

@@ -52,8 +52,8 @@ abbrev pub letter : String → ℕ
 letter c = getD (ascii c) 0 0
 
 abbrev pub gives : String → ℕ → ℕ → ℕ → ℕ → ℕ → MotionCase
-gives c Ss S1 sds sd1 av =
-    record { class = letter c; Ss = Ss; S1 = S1; answer = record { code = plain 0; values = record { sds = sds; sd1 = sd1; av = av } } }
+gives c Ss S1 sds sd1 vertical =
+    record { class = letter c; Ss = Ss; S1 = S1; answer = record { code = plain 0; values = record { sds = sds; sd1 = sd1; vertical = vertical } } }
 
 abbrev pub refuses : String → ℕ → ℕ → ℕ → MotionCase
 refuses c Ss S1 number = record { class = letter c; Ss = Ss; S1 = S1; answer = record { code = plain number; values = noValues } }
@@ -61,12 +61,12 @@ refuses c Ss S1 number = record { class = letter c; Ss = Ss; S1 = S1; answer = r
 abbrev pub motionCases : List MotionCase
 motionCases =
     gives "C" 240 93 720000 158100 27  -- document 02: SDS 0.192, SD1 0.1054
-    ∷ gives "A" 40 0 80000 0 3  -- from 0.02133..; SDS rounded up to a thousandth first would give 4
+    ∷ gives "A" 40 0 80000 0 3  -- SDS is 0.02133..; rounded up to a thousandth first it would give Av 4
     ∷ gives "E" 875 250 2296875 750000 86  -- mid-way between columns: Fa 1.05, Fv 3.0
     ∷ gives "E" 500 100 2125000 350000 80  -- on columns: Fa 1.7, Fv 3.5
     ∷ gives "D" 600 130 1980000 296400 74  -- between columns: Fa 1.32, Fv 2.28
-    ∷ gives "B" 75 0 187500 0 7  -- 0.14 × SDS is 0.007, and just above 0.065 in the next
-    ∷ gives "E" 296 147 1741072 493773 66
+    ∷ gives "B" 75 0 187500 0 7  -- 0.14 × SDS is 0.007 exactly
+    ∷ gives "E" 296 147 1741072 493773 66  -- and just above 0.065
     ∷ gives "D" 3000 3000 7500000 4500000 280  -- past the last
     ∷ gives "B" 0 0 0 0 0
     ∷ refuses "C" 3001 0 40

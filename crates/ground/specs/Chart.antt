@@ -63,9 +63,9 @@ interpolated step figures x =
 abbrev pub coefficientOf : Chart → ℕ → ℕ → ℕ
 coefficientOf c class x = interpolated (c .step) (rowOf c class) x
 
--- "with straight lines between the columns and the end columns' figures outside them" (document 02, S-2), of a coefficient f over 10 × step:
--- at a column it is the figure, which in tenths is figure × step over 10 × step; from one column to the next, both included, it is on the
--- line through the two, exactly. `interpolated` is so, and no other function (proofs/ChartLaws.antt).
+-- "with straight lines between the columns and the end columns' figures outside them" (document 02, S-2), of a coefficient over
+-- 10 × step: at a column it is the column's figure (n tenths are n × step over 10 × step); from one column to the next, both included, it is
+-- on the line through the two, exactly. `interpolated` is so, and no other function (proofs/ChartLaws.antt).
 pub record Interpolates (step : ℕ) (figures : List ℕ) (f : ℕ → ℕ) : Type 0 where
   pub before-first : (x : ℕ) → x ≤ step → f x ≡ column figures 1 * step
   pub on-column : (k : ℕ) → 1 ≤ k → k ≤ 5 → f (k * step) ≡ column figures k * step

@@ -43,15 +43,15 @@ sdsOf class Ss = designOf fa 3750000 class Ss
 unfoldable pub sd1Of : ℕ → ℕ → ℕ
 sd1Of class S1 = designOf fv 1500000 class S1
 
--- Av, "0.14 × SDS, rounded up to a thousandth": 140 × SDS in thousandths, exactly and rounded
-abbrev pub avExact : ℕ → Ratio
-avExact sds = record { num = 140 * sds; den = 3750000 }
+-- Av, "0.14 × SDS, rounded up to a thousandth": in thousandths it is 140 × SDS, exactly and rounded
+abbrev pub verticalExact : ℕ → Ratio
+verticalExact sds = record { num = 140 * sds; den = 3750000 }
 
-unfoldable pub avOf : ℕ → ℕ
-avOf sds = upOf (avExact sds .num) (avExact sds .den)
+unfoldable pub verticalOf : ℕ → ℕ
+verticalOf sds = upOf (verticalExact sds .num) (verticalExact sds .den)
 
 unfoldable pub valuesOf : ℕ → ℕ → ℕ → DesignValues
-valuesOf class Ss S1 = record { sds = sdsOf class Ss; sd1 = sd1Of class S1; av = avOf (sdsOf class Ss) }
+valuesOf class Ss S1 = record { sds = sdsOf class Ss; sd1 = sd1Of class S1; vertical = verticalOf (sdsOf class Ss) }
 
 -- "41 for a class other than A to E, first; 40 for Ss or S1 above 3,000, next."
 abbrev pub otherClass : ℕ → Condition
@@ -76,7 +76,7 @@ pub record MotionCode : Type 0 where
   pub values : DesignValues
 
 abbrev pub noValues : DesignValues
-noValues = record { sds = 0; sd1 = 0; av = 0 }
+noValues = record { sds = 0; sd1 = 0; vertical = 0 }
 
 abbrev pub motionCode : GroundMotion.GroundMotion → MotionCode
 motionCode (GroundMotion.the-variants.Given v) = record { code = plain 0; values = v }
@@ -98,9 +98,9 @@ pub record WithoutLoss (c : Chart) (k class S n : ℕ) : Type 0 where
 pub record ValuesJustified (class Ss S1 : ℕ) (v : DesignValues) : Type 0 where
   pub sds-exact : WithoutLoss fa 3750000 class Ss (v .sds)
   pub sd1-exact : WithoutLoss fv 1500000 class S1 (v .sd1)
-  pub av-rounded : AtLeast (avExact (v .sds)) (whole 1) (v .av)
-  pub av-most : v .av ≤ 280
-  pub av-in-range : In 10 (v .av)
+  pub vertical-rounded : AtLeast (verticalExact (v .sds)) (whole 1) (v .vertical)
+  pub vertical-most : v .vertical ≤ 280
+  pub vertical-in-range : In 10 (v .vertical)
 
 abbrev pub ReplyJustified : ℕ → ℕ → ℕ → GroundMotion.GroundMotion → Type 0
 ReplyJustified class Ss S1 (GroundMotion.the-variants.Given v) = ValuesJustified class Ss S1 v

@@ -4,7 +4,8 @@ ghost use Prim.Native.Nat.{_*_, _≤_};
 ghost use Rattle.ground.specs.Chart.{chart, interpolated, coefficientOf};
 ghost use Rattle.ground.specs.Motion.{mostMapped};
 
-// Fa and Fv in tenths, a row for each class from A to E.
+// Fa and Fv in tenths, a row for each class from A to E. Columns stand 250 thousandths of g apart in FA and 100
+// in FV, the first at one step.
 pub(crate) const FA: [[u8; 5]; 5] = [
     [8, 8, 8, 8, 8],
     [10, 10, 10, 10, 10],
@@ -42,15 +43,15 @@ fn coefficient(figures: [u8; 5], step: u8, x: u32) -> u32
     left + right
 }
 
-// A map value s, adjusted for the site class: F * s, over 10 * step * 1000.
-pub(crate) fn adjusted(rows: [[u8; 5]; 5], step: u8, class: u8, s: u32) -> u32
+// A map value adjusted for the site class, F * S (source 001, Eq 14-1 and 14-2), over 10 * step * 1000.
+pub(crate) fn adjusted(rows: [[u8; 5]; 5], step: u8, class: u8, mapped: u32) -> u32
     requires { ⌜ 65 ≤ class ⌝ }
     requires { ⌜ class ≤ 69 ⌝ }
-    requires { ⌜ s ≤ mostMapped ⌝ }
-    ensures { λ r. ⌜ r ≡ coefficientOf (chart step rows) class s * s ⌝ }
+    requires { ⌜ mapped ≤ mostMapped ⌝ }
+    ensures { λ r. ⌜ r ≡ coefficientOf (chart step rows) class mapped * mapped ⌝ }
 {
     let k = (class - b'A') as usize;
-    coefficient(rows[k], step, s) * s
+    coefficient(rows[k], step, mapped) * mapped
 }
 
 fn times(tenths: u8, x: u32) -> u32

@@ -11,7 +11,7 @@ use fields::Refusal;
 pub struct DesignValues {
     pub sds: u32,
     pub sd1: u32,
-    pub av: u32,
+    pub vertical: u32,
 }
 
 pub enum GroundMotion {
@@ -48,9 +48,9 @@ fn design_values(class: u8, ss: u32, s1: u32) -> DesignValues
     requires { ⌜ s1 ≤ mostMapped ⌝ }
     ensures { λ r. ⌜ r ≡ valuesOf class ss s1 ⌝ }
 {
-    // Two thirds of F * s over 2,500 * 1,000 is F * s over 3,750,000, and over 1,000 * 1,000 it is F * s over 1,500,000.
+    // Two thirds of F * S over 2,500 * 1,000 is F * S over 3,750,000, and over 1,000 * 1,000 it is F * S over 1,500,000.
     let sds = adjusted(FA, 250, class, ss);
     let sd1 = adjusted(FV, 100, class, s1);
-    let av = exact::up(140 * sds as u64, 3750000) as u32;
-    DesignValues { sds, sd1, av }
+    let vertical = exact::up(140 * sds as u64, 3750000) as u32;
+    DesignValues { sds, sd1, vertical }
 }

@@ -1,4 +1,4 @@
--- An element that is there does not depend on what stands for one that is not.
+-- An element that a list has is the same whatever stands for those past its end.
 -- Assumes nothing.
 use mathlib.Core.Path.{_≡_, refl}
 use mathlib.Core.List.{List, [], _∷_}

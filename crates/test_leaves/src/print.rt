@@ -74,5 +74,5 @@ pub(crate) fn design_values(v: DesignValues) {
     io::write_all(STDOUT_FILENO, b" ");
     io::print_decimal(STDOUT_FILENO, v.sd1 as u64);
     io::write_all(STDOUT_FILENO, b" ");
-    number(v.av as u64);
+    number(v.vertical as u64);
 }

@@ -22,8 +22,8 @@ returns : tie.Need-returns
 returns c =
     let d = c .before .before in
     let inside : d .args .class - 65 < length (d .args .t1) = omega (arith, d .pre, d .good .0 .1 .0 .1) in
-    ap (λ (n : ℕ). n * d .args .s) (c .coefficient .ensures .0)
-    ∙ ap (λ (row : List ℕ). interpolated (d .args .step) row (d .args .s) * d .args .s) (any-default (d .args .t1) (d .args .class - 65) _ [] inside)
+    ap (λ (n : ℕ). n * d .args .mapped) (c .coefficient .ensures .0)
+    ∙ ap (λ (row : List ℕ). interpolated (d .args .step) row (d .args .mapped) * d .args .mapped) (any-default (d .args .t1) (d .args .class - 65) _ [] inside)
 
 pub adjusted-spec : {M : Type 1} → statement M
 adjusted-spec =
