@@ -1,9 +1,9 @@
 """Request S-2 of document 02: ground motion from the map values.
 
 Written from the request and from the source document that it names, 001 (AWWA, Sec. 14.2.4 and
-14.2.6), alone. Every figure is an exact Fraction, accelerations in multiples of g; only Av is rounded.
-A class is handed in as one byte's value, Ss and S1 as thousandths, any whole number that a u32
-holds. A refusal is as in document.py.
+14.2.6); its self test from source document 003 too. Every figure is an exact Fraction,
+accelerations in multiples of g; only Av is rounded. A class is handed in as one byte's value, Ss
+and S1 as thousandths, any whole number that a u32 holds. A refusal is as in document.py.
 """
 
 from fractions import Fraction

@@ -14,6 +14,8 @@ use Rattle.fields.specs.Range.{range, between, within, In}
 use Rattle.fields.specs.declared.refusal.Refusal.the-variants.{OutOfRange, BadAnchors}
 use Rattle.fields.proofs.RangeLaws.{in-of-within, in-of-between, within-some}
 use Rattle.fields.specs.Order.{Condition, _when_, firstOf, clear, Figure, outside}
+use Rattle.fields.specs.declared.answer.Answer.the-variants.{Accepted}
+use Rattle.fields.proofs.OrderLaws.{first-cons, first-append, clear-accepted}
 use Rattle.entries.specs.Sheet.{tankFields, siteFields, anchorFields, courseFields, allowanceTooLarge, badAnchors, tankFlaws, siteFlaws, anchorFlaws, courseFlaws, tankOf, siteOf, anchorsOf}
 use Rattle.entries.specs.declared.sheet.Tank.{Tank}
 use Rattle.entries.specs.declared.sheet.Site.{Site}
@@ -22,8 +24,6 @@ use Rattle.entries.specs.declared.sheet.Course.{Course}
 use Rattle.entries.specs.declared.sheet.TankEntry as TankEntry
 use Rattle.entries.specs.declared.sheet.SiteEntry as SiteEntry
 use Rattle.entries.specs.declared.sheet.AnchorsEntry as AnchorsEntry
-use Rattle.fields.specs.declared.answer.Answer.the-variants.{Accepted}
-use Rattle.fields.proofs.OrderLaws.{first-cons, first-append, clear-accepted}
 
 -- figures that pass the test of their fields
 abbrev pub Pass : List Figure → Type 0

@@ -1,5 +1,5 @@
--- The fields' ranges, once, as data: document 01, "Fields and their ranges". Whatever tests a range or asks for
--- one reads it from `ranges`.
+-- The fields' ranges, once, as data: document 01, "Fields and their ranges". Whatever tests or asks for a field's
+-- range reads it from `ranges`.
 use mathlib.Core.Bool.{Bool, true, false, _&&_, _||_}
 use mathlib.Core.List.{List, [], _∷_}
 use Prim.Native.Nat.{ℕ, zero, suc, _≤_}

@@ -3,14 +3,14 @@
 use mathlib.Core.Path.{_≡_, _∙_, ap, sym}
 use mathlib.Core.List.{List}
 use mathlib.Core.Logic.{_⊎_, inl, inr}
-use Prim.Native.Nat.{ℕ, suc, _+_, _-_, _*_, _/_, _%_, _≤_, _<_}
+use Prim.Native.Nat.{ℕ, suc, _+_, _*_, _/_, _%_, _≤_, _<_}
 use native.Mathlib.Nat.{add-zero, div-add-mod', div-eq-of-lt, div-lt-iff-lt-mul, eq-of-mul-eq-mul-right, eq-or-lt-of-le, le-antisymm, le-div-iff-mul-le, le-of-mul-le-mul-right, lt-of-not-le, mod-eq-of-lt, mod-lt, mul-add-div-right, mul-add-mod-self-right, mul-le-mul-right, sub-self, sub-zero}
 use native.Mathlib.Decide.{decLe}
 use native.Mathlib.Omega.{arith}
 use borrow.Author.Tests.{le-leb, lt-leb}
 use Rattle.ground.specs.Chart.{column, onLine, interpolated, Interpolates}
 
--- strictly between the end columns: the column before x, and how far x is past it
+-- strictly between the end columns: the column at or before x, and how far x is past it
 pub inside : (step x : ℕ) → step < x → x < 5 * step → (0 < step) × (1 ≤ x / step) × (x / step < 5) × (x % step < step)
 inside step x h l =
     let p : 0 < step = omega arith in
@@ -25,7 +25,7 @@ module _ (step : ℕ) (figures : List ℕ) where
   unfolding interpolated
   at-last x h l = rw (lt-leb x step h, le-leb (5 * step) x l)
 
-  -- on the line from the column before x
+  -- on the line from the column at or before x
   abbrev lineAt : ℕ → ℕ
   lineAt x = onLine step figures (x / step) (x % step)
 
@@ -83,7 +83,7 @@ module _ (step : ℕ) (figures : List ℕ) where
         record {
           before-first = at-first;
           on-column = on-column;
-          between = λ k past a b h. rw (on-line k past a b h, on-column k a (omega arith), on-column (suc k) (omega arith) (omega arith)) (omega arith);
+          between = λ k past a b h. rw (on-line k past a (omega arith) h, on-column k a (omega arith), on-column (suc k) (omega arith) (omega arith)) (omega arith);
           past-last = λ x l. at-last x (omega arith) l;
         }
 

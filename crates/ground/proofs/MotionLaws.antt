@@ -1,28 +1,28 @@
--- The laws of ground motion, of either chart at a stroke.
+-- The laws of ground motion, stated once over the chart.
 -- Assumes nothing.
 use mathlib.Core.Path.{_≡_, refl, sym, ap, _∙_, subst}
-use mathlib.Core.Bool.{cond}
+use mathlib.Core.Bool.{Bool, false, cond}
 use mathlib.Core.List.{[], _∷_}
 use mathlib.Core.Logic.{_↔_}
-use Prim.Native.Nat.{ℕ, _+_, _-_, _*_, _/_, _≤_, _<_}
+use Prim.Native.Nat.{ℕ, suc, _+_, _-_, _*_, _/_, _≤_, _<_}
 use native.Mathlib.Nat.{mul-div-cancel}
 use native.Mathlib.Omega.{arith}
 use lib.Dec.{T, leb, ltb, eqb, leb→le}
+use lib.ListN.{length}
 use borrow.Author.Tests.{leb-true, ltb-false, not-false}
 use Rattle.lists.proofs.BoolLaws.{both-hold, both-fail}
-use Rattle.exact.specs.Quotient.{upOf}
 use Rattle.exact.proofs.Table.{every, at-each}
-use Rattle.exact.proofs.QuotientLaws.{rounded-up}
-use Rattle.fields.specs.Order.{firstOf, answerCode, codes, First}
+use Rattle.exact.proofs.QuotientLaws.{up-least, rounded-up}
+use Rattle.fields.specs.Order.{firstOf, answerCode, codes, at, First}
 use Rattle.fields.specs.Refusal.{plain}
 use Rattle.fields.specs.declared.answer.Answer.{Answer}
 use Rattle.fields.specs.declared.answer.Answer.the-variants.{Accepted, Refused}
 use Rattle.fields.specs.declared.refusal.Code.{Code}
 use Rattle.fields.specs.declared.refusal.Refusal.{Refusal}
-use Rattle.fields.proofs.OrderLaws.{clash, first-cons, first-code, first-exactly}
+use Rattle.fields.proofs.OrderLaws.{clash, first-cons, first-code, first-exactly, none-exactly}
 use Rattle.fields.proofs.RefusalLaws.{never-zero}
 use Rattle.ground.specs.Chart.{Chart, fa, fv, rowOf, interpolated, coefficientOf}
-use Rattle.ground.specs.Motion.{isClass, mostMapped, designExact, over, designOf, sdsOf, sd1Of, verticalExact, verticalOf, valuesOf, otherClass, tooLarge, motionOrder, givenUnless, groundMotion, noValues, motionCode, groundMotionCode, WithoutLoss, ValuesJustified, ReplyJustified}
+use Rattle.ground.specs.Motion.{isClass, mostMapped, designExact, over, designOf, sdsDen, sd1Den, sdsOf, sd1Of, verticalExact, verticalOf, valuesOf, otherClass, tooLarge, motionOrder, givenUnless, groundMotion, noValues, motionCode, groundMotionCode, WithoutLoss, greatest, ValuesJustified, ReplyJustified}
 use Rattle.ground.proofs.ChartLaws.{interpolates, interpolation-unique}
 use Rattle.ground.specs.declared.motion.GroundMotion as GroundMotion
 use Rattle.ground.specs.declared.motion.DesignValues.{DesignValues}
@@ -44,7 +44,7 @@ without-loss : (c : Chart) (class S : ℕ) → 0 < c .step → WithoutLoss c (15
 without-loss c class S p =
     record {
       lines = interpolates (c .step) (rowOf c class) p;
-      exact = λ F i. rw (interpolation-unique (c .step) (rowOf c class) p F i S) (kept c (coefficientOf c class S) S p);
+      exact = λ f i. rw (interpolation-unique (c .step) (rowOf c class) p f i S) (kept c (coefficientOf c class S) S p);
     }
 
 -- so for both charts
@@ -56,28 +56,52 @@ sd1-product : (class S1 : ℕ) → sd1Of class S1 ≡ coefficientOf fv class S1 
 unfolding sd1Of
 sd1-product class S1 = over-product fv (coefficientOf fv class S1) S1 (omega arith)
 
--- Av at every class and every Ss that is answered: one computed test
-vertical-tested : T (every (λ j. every (λ x. leb (verticalOf (sdsOf (65 + j) x)) 280) 3001) 5)
-unfolding verticalOf sdsOf interpolated upOf
-vertical-tested = tt
+-- whether no design value of a class, and of all classes, is above this at the map values that are answered
+abbrev classBounded : Chart → ℕ → ℕ → ℕ → Bool
+classBounded c den most class = every (λ x. leb (designOf c den class x) most) (suc mostMapped)
 
-module _ (class Ss : ℕ) (least : 65 ≤ class) (greatest : class ≤ 69) (mapped : Ss ≤ mostMapped) where
-  at-most : verticalOf (sdsOf class Ss) ≤ 280
-  at-most =
-      let row = at-each (λ j. every (λ x. leb (verticalOf (sdsOf (65 + j) x)) 280) 3001) 5 vertical-tested (class - 65) (omega arith) in
+abbrev allBounded : Chart → ℕ → ℕ → Bool
+allBounded c den most = every (λ j. classBounded c den most (65 + j)) 5
+
+-- computed by the checker, for both charts
+tested : T (allBounded fa sdsDen (greatest .sds)) × T (allBounded fv sd1Den (greatest .sd1))
+unfolding interpolated
+tested = (tt, tt)
+
+module _ (class : ℕ) (first : 65 ≤ class) (last : class ≤ 69) where
+  at-most : (c : Chart) (den most : ℕ) → T (allBounded c den most) → (S : ℕ) → S ≤ mostMapped → designOf c den class S ≤ most
+  at-most c den most t S mapped =
       let e : 65 + (class - 65) ≡ class = omega arith in
-      subst (λ (k : ℕ). verticalOf (sdsOf k Ss) ≤ 280) e (leb→le _ 280 (at-each (λ x. leb (verticalOf (sdsOf (65 + (class - 65)) x)) 280) 3001 row Ss (omega arith)))
+      let row = subst (λ (n : ℕ). T (classBounded c den most n)) e (at-each (λ j. classBounded c den most (65 + j)) 5 t (class - 65) (omega arith)) in
+      leb→le _ most (at-each (λ x. leb (designOf c den class x) most) (suc mostMapped) row S (omega arith))
 
-  values-justified : (S1 : ℕ) → ValuesJustified class Ss S1 (valuesOf class Ss S1)
-  unfolding valuesOf sdsOf sd1Of verticalOf
-  values-justified S1 =
-      record {
-        sds-exact = without-loss fa class Ss (omega arith);
-        sd1-exact = without-loss fv class S1 (omega arith);
-        vertical-rounded = rounded-up (verticalExact (sdsOf class Ss)) (omega arith);
-        vertical-most = at-most;
-        vertical-in-range = (omega arith, omega (arith, at-most));
-      }
+  sds-at-most : (Ss : ℕ) → Ss ≤ mostMapped → sdsOf class Ss ≤ greatest .sds
+  unfolding sdsOf
+  sds-at-most = at-most fa sdsDen (greatest .sds) (tested .0)
+
+  sd1-at-most : (S1 : ℕ) → S1 ≤ mostMapped → sd1Of class S1 ≤ greatest .sd1
+  unfolding sd1Of
+  sd1-at-most = at-most fv sd1Den (greatest .sd1) (tested .1)
+
+vertical-at-most : (sds : ℕ) → sds ≤ greatest .sds → verticalOf sds ≤ greatest .vertical
+unfolding verticalOf
+vertical-at-most sds h = up-least (verticalExact sds .num) (verticalExact sds .den) (omega arith) (greatest .vertical) (omega arith)
+
+values-justified : (class Ss S1 : ℕ) → 65 ≤ class → class ≤ 69 → Ss ≤ mostMapped → S1 ≤ mostMapped
+    → ValuesJustified class Ss S1 (valuesOf class Ss S1)
+unfolding valuesOf sdsOf sd1Of verticalOf
+values-justified class Ss S1 first last ss-mapped s1-mapped =
+    let sds = sds-at-most class first last Ss ss-mapped in
+    let vertical = vertical-at-most (sdsOf class Ss) sds in
+    record {
+      sds-exact = without-loss fa class Ss (omega arith);
+      sd1-exact = without-loss fv class S1 (omega arith);
+      vertical-rounded = rounded-up (verticalExact (sdsOf class Ss)) (omega arith);
+      sds-most = sds;
+      sd1-most = sd1-at-most class first last S1 s1-mapped;
+      vertical-most = vertical;
+      vertical-in-range = (omega arith, omega (arith, vertical));
+    }
 
 -- the figures as they are worked out
 pub worked-out : (class Ss S1 : ℕ) {a b v : ℕ} → a ≡ coefficientOf fa class Ss * Ss
@@ -91,6 +115,10 @@ refused-as : (a : Answer) (v : DesignValues) (r : Refusal) → (givenUnless a v 
 refused-as Accepted v r = (λ e. absurd (let z : _≡_ {A = ℕ} 0 1 = cc in omega arith), λ e. clash (sym e))
 refused-as (Refused x) v r = (λ e. cc, λ e. cc)
 
+given-as : (a : Answer) (v : DesignValues) → (givenUnless a v ≡ GroundMotion.the-variants.Given v) ↔ (a ≡ Accepted)
+given-as Accepted v = (λ e. refl, λ e. refl)
+given-as (Refused r) v = (λ e. absurd (let z : _≡_ {A = ℕ} 0 1 = cc in omega arith), clash)
+
 module _ (class Ss S1 : ℕ) where
   -- the documents' numbers, in their order
   pub motion-order : codes (motionOrder class Ss S1) ≡ plain 41 ∷ plain 40 ∷ []
@@ -102,6 +130,15 @@ module _ (class Ss S1 : ℕ) where
   motion-exactly r =
       let f = first-exactly (motionOrder class Ss S1) r in
       let g = refused-as (firstOf (motionOrder class Ss S1)) (valuesOf class Ss S1) r in
+      (λ e. f .0 (g .0 e), λ h. g .1 (f .1 h))
+
+  -- and values exactly where no condition applies
+  pub given-exactly : (groundMotion class Ss S1 ≡ GroundMotion.the-variants.Given (valuesOf class Ss S1))
+      ↔ ((j : ℕ) → j < length (motionOrder class Ss S1) → at (motionOrder class Ss S1) j .applies ≡ false)
+  unfolding groundMotion
+  given-exactly =
+      let f = none-exactly (motionOrder class Ss S1) in
+      let g = given-as (firstOf (motionOrder class Ss S1)) (valuesOf class Ss S1) in
       (λ e. f .0 (g .0 e), λ h. g .1 (f .1 h))
 
   motion-code : motionCode (groundMotion class Ss S1) ≡ groundMotionCode class Ss S1
@@ -123,7 +160,8 @@ module _ (class Ss S1 : ℕ) where
           let h = first-cons (otherClass class) (tooLarge Ss S1 ∷ []) e in
           let known = both-hold (leb 65 class) (leb class 69) (not-false (isClass class) (h .0)) in
           let mapped = both-fail (ltb mostMapped Ss) (ltb mostMapped S1) (first-cons (tooLarge Ss S1) [] (h .1) .0) in
-          values-justified class Ss (leb-true 65 class (known .0)) (leb-true class 69 (known .1)) (ltb-false mostMapped Ss (mapped .0)) S1
+          values-justified class Ss S1 (leb-true 65 class (known .0)) (leb-true class 69 (known .1))
+          (ltb-false mostMapped Ss (mapped .0)) (ltb-false mostMapped S1 (mapped .1))
 
   -- the further clauses of what answers as the definition does
   pub motion-clauses : {r : GroundMotion.GroundMotion} → r ≡ groundMotion class Ss S1

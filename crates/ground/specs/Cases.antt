@@ -1,5 +1,5 @@
 -- What pins the definitions at literal figures: the charts once more, as source 003 prints them (Tables 26 and 27), the bytes that are
--- classes, and questions with their answers, document 02's example first.
+-- classes, questions with their answers, document 02's example first, and where the greatest values are reached.
 use mathlib.Core.List.{List, [], _∷_, _++_, map}
 use mathlib.Core.Bool.{cond}
 use Prim.Native.Nat.{ℕ, zero, suc, _*_}
@@ -8,7 +8,8 @@ use lib.ListN.{getD}
 use Rattle.lists.specs.Ascii.{ascii}
 use Rattle.fields.specs.Refusal.{plain}
 use Rattle.ground.specs.Chart.{Chart, row, coefficientOf}
-use Rattle.ground.specs.Motion.{isClass, MotionCode, noValues, motionCode, groundMotion}
+use Rattle.ground.specs.declared.motion.DesignValues.{DesignValues}
+use Rattle.ground.specs.Motion.{isClass, MotionCode, sdsOf, sd1Of, verticalOf, motionCode, groundMotion}
 
 abbrev pub table26 : List (List ℕ)
 table26 =
@@ -56,7 +57,7 @@ gives c Ss S1 sds sd1 vertical =
     record { class = letter c; Ss = Ss; S1 = S1; answer = record { code = plain 0; values = record { sds = sds; sd1 = sd1; vertical = vertical } } }
 
 abbrev pub refuses : String → ℕ → ℕ → ℕ → MotionCase
-refuses c Ss S1 number = record { class = letter c; Ss = Ss; S1 = S1; answer = record { code = plain number; values = noValues } }
+refuses c Ss S1 number = record { class = letter c; Ss = Ss; S1 = S1; answer = record { code = plain number; values = record { sds = 0; sd1 = 0; vertical = 0 } } }
 
 abbrev pub motionCases : List MotionCase
 motionCases =
@@ -65,9 +66,11 @@ motionCases =
     ∷ gives "E" 875 250 2296875 750000 86  -- mid-way between columns: Fa 1.05, Fv 3.0
     ∷ gives "E" 500 100 2125000 350000 80  -- on columns: Fa 1.7, Fv 3.5
     ∷ gives "D" 600 130 1980000 296400 74  -- between columns: Fa 1.32, Fv 2.28
+    ∷ gives "E" 900 350 2295000 910000 86  -- on the third lines: Fa 1.02, Fv 2.6
+    ∷ gives "D" 1103 450 2919641 697500 109  -- on the last lines: Fa 1.0588, Fv 1.55; 0.14 × SDS is just below 0.109
     ∷ gives "B" 75 0 187500 0 7  -- 0.14 × SDS is 0.007 exactly
-    ∷ gives "E" 296 147 1741072 493773 66  -- and just above 0.065
-    ∷ gives "D" 3000 3000 7500000 4500000 280  -- past the last
+    ∷ gives "E" 296 147 1741072 493773 66  -- 0.14 × SDS is just above 0.065
+    ∷ gives "D" 3000 3000 7500000 4500000 280  -- past the last columns
     ∷ gives "B" 0 0 0 0 0
     ∷ refuses "C" 3001 0 40
     ∷ refuses "C" 0 3001 40
@@ -78,3 +81,9 @@ motionCases =
 
 abbrev pub answered : MotionCase → MotionCode
 answered q = motionCode (groundMotion (q .class) (q .Ss) (q .S1))
+
+-- the greatest values, where they are reached
+abbrev pub reached : DesignValues
+reached =
+    let sds = sdsOf (letter "D") 3000 in
+    record { sds = sds; sd1 = sd1Of (letter "E") 3000; vertical = verticalOf sds }

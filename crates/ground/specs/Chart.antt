@@ -59,7 +59,7 @@ interpolated step figures x =
     cond (leb x step) (column figures 1 * step)
     (cond (leb (5 * step) x) (column figures 5 * step) (onLine step figures (x / step) (x % step)))
 
--- Fa or Fv of a class
+-- Fa or Fv of a class at x thousandths of g, over 10 × step
 abbrev pub coefficientOf : Chart → ℕ → ℕ → ℕ
 coefficientOf c class x = interpolated (c .step) (rowOf c class) x
 

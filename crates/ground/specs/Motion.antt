@@ -29,23 +29,30 @@ mostMapped = 3000
 abbrev pub designExact : Chart → ℕ → ℕ → Ratio
 designExact c F S = record { num = 2 * (F * S); den = 3 * (10 * c .step * 1000) }
 
--- a fraction as a whole number over k, rounded down; where it is used nothing is lost (`WithoutLoss`)
+-- a fraction as a whole number over den, rounded down; where it is used nothing is lost (`WithoutLoss`)
 abbrev pub over : ℕ → Ratio → ℕ
-over k f = downOf (f .num * k) (f .den)
+over den f = downOf (f .num * den) (f .den)
 
--- the design value over k; SDS and SD1, "kept without loss as whole numbers over 3,750,000 and over 1,500,000"
+-- the design value of a class at a map value, over den
 abbrev pub designOf : Chart → ℕ → ℕ → ℕ → ℕ
-designOf c k class S = over k (designExact c (coefficientOf c class S) S)
+designOf c den class S = over den (designExact c (coefficientOf c class S) S)
+
+-- SDS and SD1, "kept without loss as whole numbers over 3,750,000 and over 1,500,000"
+abbrev pub sdsDen : ℕ
+sdsDen = 3750000
+
+abbrev pub sd1Den : ℕ
+sd1Den = 1500000
 
 unfoldable pub sdsOf : ℕ → ℕ → ℕ
-sdsOf class Ss = designOf fa 3750000 class Ss
+sdsOf class Ss = designOf fa sdsDen class Ss
 
 unfoldable pub sd1Of : ℕ → ℕ → ℕ
-sd1Of class S1 = designOf fv 1500000 class S1
+sd1Of class S1 = designOf fv sd1Den class S1
 
--- Av, "0.14 × SDS, rounded up to a thousandth": in thousandths it is 140 × SDS, exactly and rounded
+-- Av, "0.14 × SDS, rounded up to a thousandth" (source 003, Sec. 13.5.4.3): in thousandths it is 140 × SDS, first exact, then rounded
 abbrev pub verticalExact : ℕ → Ratio
-verticalExact sds = record { num = 140 * sds; den = 3750000 }
+verticalExact sds = record { num = 140 * sds; den = sdsDen }
 
 unfoldable pub verticalOf : ℕ → ℕ
 verticalOf sds = upOf (verticalExact sds .num) (verticalExact sds .den)
@@ -87,19 +94,25 @@ groundMotionCode class Ss S1 =
     let p = firstCode (motionOrder class Ss S1) in
     record { code = p; values = cond (eqb (p .number) 0) (valuesOf class Ss S1) noValues }
 
--- n over k is the design value of the map value S: two thirds of F × S, exactly, whatever function F has the chart's straight lines; and there
--- is one that has them.
-pub record WithoutLoss (c : Chart) (k class S n : ℕ) : Type 0 where
+-- n over den is the design value of the map value S: two thirds of f S × S, exactly, whatever function f has the chart's straight lines; and
+-- there is one that has them.
+pub record WithoutLoss (c : Chart) (den class S n : ℕ) : Type 0 where
   pub lines : Interpolates (c .step) (rowOf c class) (coefficientOf c class)
-  pub exact : (F : ℕ → ℕ) → Interpolates (c .step) (rowOf c class) F → n * designExact c (F S) S .den ≡ designExact c (F S) S .num * k
+  pub exact : (f : ℕ → ℕ) → Interpolates (c .step) (rowOf c class) f → n * designExact c (f S) S .den ≡ designExact c (f S) S .num * den
 
--- What the values of a reply are: SDS and SD1 without loss; Av at least 0.14 × SDS and less than a thousandth above it, at most 280, and so in
--- the range of field 10.
+-- the most that each value is, of any class and any map values that are answered: 2 g, 4.8 g and 280 thousandths
+abbrev pub greatest : DesignValues
+greatest = record { sds = 7500000; sd1 = 7200000; vertical = 280 }
+
+-- What the values of a reply are: SDS and SD1 without loss; Av at least 0.14 × SDS and less than a thousandth above it; none above the
+-- greatest, so that Av is in the range of field 10.
 pub record ValuesJustified (class Ss S1 : ℕ) (v : DesignValues) : Type 0 where
-  pub sds-exact : WithoutLoss fa 3750000 class Ss (v .sds)
-  pub sd1-exact : WithoutLoss fv 1500000 class S1 (v .sd1)
+  pub sds-exact : WithoutLoss fa sdsDen class Ss (v .sds)
+  pub sd1-exact : WithoutLoss fv sd1Den class S1 (v .sd1)
   pub vertical-rounded : AtLeast (verticalExact (v .sds)) (whole 1) (v .vertical)
-  pub vertical-most : v .vertical ≤ 280
+  pub sds-most : v .sds ≤ greatest .sds
+  pub sd1-most : v .sd1 ≤ greatest .sd1
+  pub vertical-most : v .vertical ≤ greatest .vertical
   pub vertical-in-range : In 10 (v .vertical)
 
 abbrev pub ReplyJustified : ℕ → ℕ → ℕ → GroundMotion.GroundMotion → Type 0

@@ -4,8 +4,10 @@ ghost use Prim.Native.Nat.{_*_, _≤_};
 ghost use Rattle.ground.specs.Chart.{chart, interpolated, coefficientOf};
 ghost use Rattle.ground.specs.Motion.{mostMapped};
 
-// Fa and Fv in tenths, a row for each class from A to E. Columns stand 250 thousandths of g apart in FA and 100
-// in FV, the first at one step.
+// Fa and Fv in tenths, a row for each class from A to E, and the thousandths of g from column to column; the first
+// column stands at one step.
+pub(crate) const FA_STEP: u8 = 250;
+
 pub(crate) const FA: [[u8; 5]; 5] = [
     [8, 8, 8, 8, 8],
     [10, 10, 10, 10, 10],
@@ -13,6 +15,8 @@ pub(crate) const FA: [[u8; 5]; 5] = [
     [16, 14, 12, 11, 10],
     [25, 17, 12, 9, 9],
 ];
+
+pub(crate) const FV_STEP: u8 = 100;
 
 pub(crate) const FV: [[u8; 5]; 5] = [
     [8, 8, 8, 8, 8],
@@ -50,10 +54,11 @@ pub(crate) fn adjusted(rows: [[u8; 5]; 5], step: u8, class: u8, mapped: u32) -> 
     requires { ⌜ mapped ≤ mostMapped ⌝ }
     ensures { λ r. ⌜ r ≡ coefficientOf (chart step rows) class mapped * mapped ⌝ }
 {
-    let k = (class - b'A') as usize;
-    coefficient(rows[k], step, mapped) * mapped
+    let row = (class - b'A') as usize;
+    coefficient(rows[row], step, mapped) * mapped
 }
 
+// A figure times a number of thousandths, at most 255.
 fn times(tenths: u8, x: u32) -> u32
     requires { ⌜ x ≤ 255 ⌝ }
     ensures { λ r. ⌜ r ≡ tenths * x ⌝ }

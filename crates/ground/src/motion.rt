@@ -3,11 +3,13 @@ ghost use mathlib.Core.Path.{_≡_};
 ghost use Prim.Native.Nat.{_≤_};
 ghost use Rattle.ground.specs.Motion.{mostMapped, valuesOf, groundMotion, motionCode, groundMotionCode, ReplyJustified};
 use crate::chart::FA;
+use crate::chart::FA_STEP;
 use crate::chart::FV;
+use crate::chart::FV_STEP;
 use crate::chart::adjusted;
 use fields::Refusal;
 
-// SDS over 3,750,000, SD1 over 1,500,000, Av in thousandths of g.
+// SDS over 3,750,000 and SD1 over 1,500,000, in g; Av in thousandths of g.
 pub struct DesignValues {
     pub sds: u32,
     pub sd1: u32,
@@ -18,6 +20,9 @@ pub enum GroundMotion {
     Given(DesignValues),
     Refused(Refusal),
 }
+
+// The most that Ss and S1 may be.
+const MOST_MAPPED: u32 = 3000;
 
 // The design values of a site class, by its capital letter, and of map values in thousandths of g, up to 3,000.
 // Refused: 41, 40.
@@ -32,10 +37,10 @@ pub fn ground_motion(class: u8, ss: u32, s1: u32) -> GroundMotion
     if b'E' < class {
         return GroundMotion::Refused(Refusal::BadSiteClass);
     }
-    if 3000 < ss {
+    if MOST_MAPPED < ss {
         return GroundMotion::Refused(Refusal::FigureOutOfRange);
     }
-    if 3000 < s1 {
+    if MOST_MAPPED < s1 {
         return GroundMotion::Refused(Refusal::FigureOutOfRange);
     }
     GroundMotion::Given(design_values(class, ss, s1))
@@ -49,8 +54,8 @@ fn design_values(class: u8, ss: u32, s1: u32) -> DesignValues
     ensures { λ r. ⌜ r ≡ valuesOf class ss s1 ⌝ }
 {
     // Two thirds of F * S over 2,500 * 1,000 is F * S over 3,750,000, and over 1,000 * 1,000 it is F * S over 1,500,000.
-    let sds = adjusted(FA, 250, class, ss);
-    let sd1 = adjusted(FV, 100, class, s1);
+    let sds = adjusted(FA, FA_STEP, class, ss);
+    let sd1 = adjusted(FV, FV_STEP, class, s1);
     let vertical = exact::up(140 * sds as u64, 3750000) as u32;
     DesignValues { sds, sd1, vertical }
 }

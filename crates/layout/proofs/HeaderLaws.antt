@@ -13,11 +13,11 @@ use mir.Facts.{leb-yes, eqb-yes, yes-leb, yes-eqb}
 use borrow.Author.Tests.{lt-ltb, le-ltb, ne-eqb, eq-eqb, ltb-false, not-false, eqb-true}
 use Rattle.fields.specs.declared.refusal.Refusal.the-variants.{TooFewBytes, TooManyBytes, BadLength, BadVersion, BadCount}
 use Rattle.fields.specs.Order.{_when_, firstOf}
+use Rattle.fields.specs.declared.answer.Answer.the-variants.{Accepted, Refused}
+use Rattle.fields.proofs.OrderLaws.{first-cons}
 use Rattle.layout.specs.Numbers.{twoIn}
 use Rattle.layout.specs.Layout.{Version, version1, tailLength, bodyLength, wholeLength}
 use Rattle.layout.specs.Header.{courseIn, coursesIn, tailIn, countOf, isLength, readOrder, Header}
-use Rattle.fields.specs.declared.answer.Answer.the-variants.{Accepted, Refused}
-use Rattle.fields.proofs.OrderLaws.{first-cons}
 use Rattle.lists.proofs.BoolLaws.{T-true, three-yes, yes-three}
 
 -- L is a length exactly where it is that of an n from 1 to 12 (58 + 20 × n), and then that is the n it gives

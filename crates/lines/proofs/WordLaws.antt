@@ -16,9 +16,9 @@ use Rattle.fields.specs.declared.refusal.Code.{Code}
 use Rattle.fields.proofs.RefusalLaws.{never-zero}
 use Rattle.lists.specs.Ascii.{ascii}
 use Rattle.fields.specs.Order.{answerCode}
-use Rattle.sheet.specs.declared.complete.Entries.{Entries}
 use Rattle.fields.specs.declared.answer.Answer.{Answer}
 use Rattle.fields.specs.declared.answer.Answer.the-variants.{Accepted, Refused}
+use Rattle.sheet.specs.declared.complete.Entries.{Entries}
 use Rattle.reports.specs.Meets.{Justified}
 use Rattle.reports.specs.Report.{tankWord}
 use Rattle.reports.specs.declared.report.Judgement.{Judgement}

@@ -8,10 +8,10 @@ use Rattle.fields.specs.declared.refusal.Code.{Code}
 use Rattle.fields.specs.declared.refusal.Refusal.{Refusal}
 use Rattle.fields.proofs.RefusalLaws.{never-zero}
 use Rattle.fields.specs.Order.{First, answerCode}
-use Rattle.entries.specs.declared.sheet.Sheet.{Sheet}
 use Rattle.fields.specs.declared.answer.Answer.{Answer}
 use Rattle.fields.specs.declared.answer.Answer.the-variants.{Accepted, Refused}
 use Rattle.fields.proofs.OrderLaws.{clash}
+use Rattle.entries.specs.declared.sheet.Sheet.{Sheet}
 use Rattle.sheet.specs.Complete.{entriesOf, completedOf, Valid}
 use Rattle.sheet.specs.Reading.{readIn, readCode, unlessCode, completedFrom, readCompleted}
 use Rattle.sheet.specs.declared.complete.Completeness as Status

@@ -14,9 +14,9 @@ use Rattle.fields.specs.declared.refusal.Refusal.{Refusal}
 use Rattle.fields.proofs.RefusalLaws.{never-zero}
 use Rattle.fields.specs.Order.{firstOf, answerCode, firstCode}
 use Rattle.fields.specs.declared.answer.Answer.{Answer}
-use Rattle.entries.specs.declared.sheet.Sheet.{Sheet}
 use Rattle.fields.specs.declared.answer.Answer.the-variants.{Accepted, Refused}
 use Rattle.fields.proofs.OrderLaws.{clash, first-code, accepted-code}
+use Rattle.entries.specs.declared.sheet.Sheet.{Sheet}
 use Rattle.sheet.specs.Complete.{entriesOf, coursesOf, completedOf, statusCode, Valid}
 use Rattle.sheet.specs.declared.complete.Entries.{Entries}
 use Rattle.sheet.specs.declared.complete.Completeness as Status

@@ -9,10 +9,10 @@ use Rattle.fields.specs.Refusal.{plain}
 use Rattle.fields.specs.declared.refusal.Refusal.{Refusal}
 use Rattle.fields.specs.declared.refusal.Refusal.the-variants.{Unreachable, WaterAboveShell}
 use Rattle.fields.specs.Order.{firstOf, First, codes}
-use Rattle.entries.specs.declared.sheet.Sheet.{Sheet}
 use Rattle.fields.specs.declared.answer.Answer.{Answer}
 use Rattle.fields.specs.declared.answer.Answer.the-variants.{Accepted, Refused}
 use Rattle.fields.proofs.OrderLaws.{first-exactly}
+use Rattle.entries.specs.declared.sheet.Sheet.{Sheet}
 use Rattle.sheet.specs.Steps.{LeftByRun}
 use Rattle.sheet.specs.Complete.{incomplete, entriesOf, statusOf, completedAs, completedOf, answerAs}
 use Rattle.sheet.specs.declared.complete.Entries.{Entries}

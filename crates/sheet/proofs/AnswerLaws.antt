@@ -16,6 +16,9 @@ use Rattle.fields.specs.declared.refusal.Refusal.{Refusal}
 use Rattle.fields.specs.declared.refusal.Refusal.the-variants.{Unreachable}
 use Rattle.fields.proofs.RefusalLaws.{never-zero}
 use Rattle.fields.specs.Order.{Condition, firstOf, First, answerCode, firstCode, codes, sixteen}
+use Rattle.fields.specs.declared.answer.Answer.{Answer}
+use Rattle.fields.specs.declared.answer.Answer.the-variants.{Accepted, Refused}
+use Rattle.fields.proofs.OrderLaws.{clash, first-exactly, first-code}
 use Rattle.entries.specs.Sheet.{emptySheet, tankFlaws, siteFlaws, anchorFlaws, courseFlaws}
 use Rattle.sheet.specs.Steps.{Step, stateTank, stateSite, stateAnchors, addCourse, orderOf, applied, anchorsAfter, LeftByRun, reachable, unreachable, stated, unless, inTurn}
 use Rattle.sheet.specs.Complete.{incomplete, entriesOf}
@@ -30,11 +33,8 @@ use Rattle.sheet.specs.declared.complete.Entries.{Entries}
 use Rattle.sheet.specs.declared.reading.Reading.{Reading}
 use Rattle.sheet.specs.declared.steps.Reply.{Reply}
 use Rattle.sheet.specs.declared.writing.Written as Written
-use Rattle.fields.specs.declared.answer.Answer.{Answer}
-use Rattle.fields.specs.declared.answer.Answer.the-variants.{Accepted, Refused}
 use Rattle.lists.specs.Each.{each}
 use Rattle.lists.proofs.BoolLaws.{T-true}
-use Rattle.fields.proofs.OrderLaws.{clash, first-exactly, first-code}
 use Rattle.layout.specs.Layout.{version1}
 use Rattle.layout.specs.Header.{readOrder}
 use Rattle.sheet.proofs.StepLaws.{stated-applied, anchors-after}

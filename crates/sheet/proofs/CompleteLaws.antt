@@ -14,6 +14,9 @@ use Rattle.fields.specs.declared.refusal.Code.{Code}
 use Rattle.fields.specs.declared.refusal.Refusal.the-variants.{Unreachable, NoTank, NoCourse, NoSite, AnchorsUnstated}
 use Rattle.fields.proofs.RefusalLaws.{never-zero}
 use Rattle.fields.specs.Order.{Condition, _when_, firstOf, andThen, clear, answerCode, firstCode}
+use Rattle.fields.specs.declared.answer.Answer.{Answer}
+use Rattle.fields.specs.declared.answer.Answer.the-variants.{Accepted, Refused}
+use Rattle.fields.proofs.OrderLaws.{first-cons, first-then, first-code}
 use Rattle.entries.specs.Sheet.{held, heightOf, tankOf, siteOf, anchorsOf, tankFlaws, siteFlaws, anchorFlaws}
 use Rattle.entries.specs.declared.sheet.Tank.{Tank}
 use Rattle.entries.specs.declared.sheet.Site.{Site}
@@ -22,10 +25,7 @@ use Rattle.entries.specs.declared.sheet.TankEntry as TankEntry
 use Rattle.entries.specs.declared.sheet.SiteEntry as SiteEntry
 use Rattle.entries.specs.declared.sheet.AnchorsEntry as AnchorsEntry
 use Rattle.entries.specs.declared.sheet.Sheet.{Sheet}
-use Rattle.fields.specs.declared.answer.Answer.{Answer}
-use Rattle.fields.specs.declared.answer.Answer.the-variants.{Accepted, Refused}
 use Rattle.entries.proofs.FieldLaws.{blank-flawed}
-use Rattle.fields.proofs.OrderLaws.{first-cons, first-then, first-code}
 use Rattle.parts.specs.Parts.{siteBlank, siteClear, anchorsBlank, anchorsClear}
 use Rattle.sheet.specs.Steps.{tankBlank, reachable}
 use Rattle.sheet.specs.Complete.{incomplete, completeOrder, entriesOf, coursesOf, noEntries, statusAs, statusOf, completedAs, completedOf, completedCode, codeWith, sheetCode, answerAs, Valid}

@@ -14,6 +14,9 @@ use mir.Facts.{and-yes, yes-and, leb-yes, yes-leb, eqb-yes, yes-eqb}
 use borrow.Author.Tests.{leb-false, ltb-false}
 use Rattle.fields.specs.declared.refusal.Refusal.the-variants.{TankStated, NoTank, CoursesFull}
 use Rattle.fields.specs.Order.{_when_, firstOf, clear}
+use Rattle.fields.specs.declared.answer.Answer.{Answer}
+use Rattle.fields.specs.declared.answer.Answer.the-variants.{Accepted, Refused}
+use Rattle.fields.proofs.OrderLaws.{clash, accepted-clear, first-cons, first-append}
 use Rattle.entries.specs.Sheet.{tooHigh, courseFigures, blankCourse, emptySheet, held, heightOf, tankFlaws, siteFlaws, anchorFlaws, courseFlaws, tankOf}
 use Rattle.parts.specs.Parts.{blank, siteBlank, siteClear, anchorsBlank, anchorsClear, coursesClear, coursesBlank, slotsReachable, partsReachable}
 use Rattle.sheet.specs.Steps.{Step, stateTank, stateSite, stateAnchors, addCourse, tankBlank, orderOf, filled, replied, applied, run, reachable}
@@ -23,10 +26,7 @@ use Rattle.entries.specs.declared.sheet.SiteEntry as SiteEntry
 use Rattle.entries.specs.declared.sheet.AnchorsEntry as AnchorsEntry
 use Rattle.entries.specs.declared.sheet.Sheet.{Sheet}
 use Rattle.sheet.specs.declared.steps.Reply.{Reply}
-use Rattle.fields.specs.declared.answer.Answer.{Answer}
-use Rattle.fields.specs.declared.answer.Answer.the-variants.{Accepted, Refused}
 use Rattle.lists.proofs.BoolLaws.{three-yes, yes-three}
-use Rattle.fields.proofs.OrderLaws.{clash, accepted-clear, first-cons, first-append}
 use Rattle.lists.proofs.EachLaws.{append-each}
 use Rattle.entries.proofs.CourseLaws.{take-set, height-append}
 

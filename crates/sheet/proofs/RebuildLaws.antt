@@ -14,6 +14,9 @@ use mir.Facts.{and-yes, eqb-yes}
 use borrow.Author.Tests.{le-ltb}
 use Rattle.fields.specs.declared.refusal.Refusal.{Refusal}
 use Rattle.fields.specs.Order.{clear}
+use Rattle.fields.specs.declared.answer.Answer.{Answer}
+use Rattle.fields.specs.declared.answer.Answer.the-variants.{Accepted, Refused}
+use Rattle.fields.proofs.OrderLaws.{first-then, clash, clear-accepted}
 use Rattle.entries.specs.Sheet.{courseFigures, blankCourse, emptySheet, held, heightOf, tankFlaws, siteFlaws, anchorFlaws, courseFlaws}
 use Rattle.parts.specs.Parts.{blank, siteBlank, siteClear, anchorsBlank, anchorsClear, coursesClear, coursesBlank, partsReachable}
 use Rattle.sheet.specs.Steps.{Step, stateTank, stateSite, stateAnchors, addCourse, accepted, refused, applied, run, LeftByRun, reachable, unless, inTurn}
@@ -24,12 +27,9 @@ use Rattle.entries.specs.declared.sheet.SiteEntry as SiteEntry
 use Rattle.entries.specs.declared.sheet.AnchorsEntry as AnchorsEntry
 use Rattle.entries.specs.declared.sheet.Sheet.{Sheet}
 use Rattle.sheet.specs.declared.steps.Reply.{Reply}
-use Rattle.fields.specs.declared.answer.Answer.{Answer}
-use Rattle.fields.specs.declared.answer.Answer.the-variants.{Accepted, Refused}
 use Rattle.lists.specs.Pad.{padded}
 use Rattle.lists.proofs.BoolLaws.{three-yes}
 use Rattle.lists.proofs.PadLaws.{padded-next}
-use Rattle.fields.proofs.OrderLaws.{first-then, clash, clear-accepted}
 use Rattle.entries.proofs.CourseLaws.{height-append}
 use Rattle.sheet.proofs.StepLaws.{tank-applied, site-applied, anchors-applied, course-applied, turn, turn-accepted}
 use Rattle.sheet.proofs.ReachLaws.{site-blank, anchors-blank, Slots, Held, reach-halves, reach-slots, parts-held, empty-reachable, run-reachable}

@@ -16,6 +16,9 @@ use Rattle.fields.specs.declared.refusal.Refusal.the-variants.{BadAnchors, Buff
 use Rattle.fields.proofs.RefusalLaws.{never-zero}
 use Rattle.lists.proofs.BoolLaws.{T-true}
 use Rattle.fields.specs.Order.{Condition, _when_, Figure, values, firstOf, outside, clear, answerCode, firstCode}
+use Rattle.fields.specs.declared.answer.Answer.{Answer}
+use Rattle.fields.specs.declared.answer.Answer.the-variants.{Accepted, Refused}
+use Rattle.fields.proofs.OrderLaws.{clash, accepted-code, clear-accepted}
 use Rattle.entries.specs.Sheet.{tankFields, siteFields, anchorFields, courseFields, emptySheet, held, heightOf, allowanceTooLarge, badAnchors, tankFlaws, siteFlaws, anchorFlaws, courseFlaws}
 use Rattle.entries.specs.declared.sheet.Tank.{Tank}
 use Rattle.entries.specs.declared.sheet.Site.{Site}
@@ -25,10 +28,7 @@ use Rattle.entries.specs.declared.sheet.Sheet.{Sheet}
 use Rattle.entries.specs.declared.sheet.TankEntry as TankEntry
 use Rattle.entries.specs.declared.sheet.SiteEntry as SiteEntry
 use Rattle.entries.specs.declared.sheet.AnchorsEntry as AnchorsEntry
-use Rattle.fields.specs.declared.answer.Answer.{Answer}
-use Rattle.fields.specs.declared.answer.Answer.the-variants.{Accepted, Refused}
 use Rattle.entries.proofs.FieldLaws.{all-pass, both-pass}
-use Rattle.fields.proofs.OrderLaws.{clash, accepted-code, clear-accepted}
 use Rattle.layout.specs.Numbers.{AllBytes, twoIn}
 use Rattle.layout.specs.Layout.{version1, wholeLength, layout}
 use Rattle.layout.specs.Header.{tankIn, siteIn, anchorsIn, coursesIn, tailIn, countOf, readOrder, Header}

@@ -9,6 +9,8 @@ use borrow.Author.Tests.{le-leb, lt-leb}
 use Rattle.fields.specs.declared.refusal.Refusal.{Refusal}
 use Rattle.fields.specs.declared.refusal.Refusal.the-variants.{Unreachable, TankStated, NoTank, CoursesFull}
 use Rattle.fields.specs.Order.{Condition, _when_, firstOf}
+use Rattle.fields.specs.declared.answer.Answer.{Answer}
+use Rattle.fields.specs.declared.answer.Answer.the-variants.{Accepted, Refused}
 use Rattle.entries.specs.Sheet.{tooHigh, emptySheet, held, heightOf, tankFlaws, siteFlaws, anchorFlaws, courseFlaws, tankOf}
 use Rattle.sheet.specs.Steps.{Step, stateTank, stateSite, stateAnchors, addCourse, tankBlank, orderOf, filled, refused, replied, applied, run, anchorsAfter, lastAnchors, stated, reachable, unless, inTurn}
 use Rattle.entries.specs.declared.sheet.Tank.{Tank}
@@ -20,8 +22,6 @@ use Rattle.entries.specs.declared.sheet.TankEntry.the-variants.{Blank, Filled}
 use Rattle.entries.specs.declared.sheet.AnchorsEntry as AnchorsEntry
 use Rattle.entries.specs.declared.sheet.Sheet.{Sheet}
 use Rattle.sheet.specs.declared.steps.Reply.{Reply}
-use Rattle.fields.specs.declared.answer.Answer.{Answer}
-use Rattle.fields.specs.declared.answer.Answer.the-variants.{Accepted, Refused}
 
 module _ (s : Sheet) where
   -- the answer of an order that looks at the tank held

@@ -10,9 +10,9 @@ use borrow.Author.Tests.{lt-ltb, le-ltb}
 use Rattle.fields.specs.declared.refusal.Refusal.{Refusal}
 use Rattle.fields.specs.declared.refusal.Refusal.the-variants.{Unreachable, BufferTooShort}
 use Rattle.fields.specs.Order.{firstOf}
-use Rattle.entries.specs.declared.sheet.Sheet.{Sheet}
 use Rattle.fields.specs.declared.answer.Answer.{Answer}
 use Rattle.fields.specs.declared.answer.Answer.the-variants.{Accepted, Refused}
+use Rattle.entries.specs.declared.sheet.Sheet.{Sheet}
 use Rattle.layout.specs.Numbers.{fours}
 use Rattle.layout.specs.Layout.{version1, wholeLength, prefixOf, tailHead, coursesFigures, layout}
 use Rattle.layout.proofs.LayoutLaws.{whole-of-one, layout-stored}

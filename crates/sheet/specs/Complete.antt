@@ -10,14 +10,14 @@ use Rattle.fields.specs.Refusal.{plain, codeOf}
 use Rattle.fields.specs.declared.refusal.Code.{Code}
 use Rattle.fields.specs.declared.refusal.Refusal.the-variants.{Unreachable, NoTank, NoCourse, NoSite, AnchorsUnstated}
 use Rattle.fields.specs.Order.{Condition, _when_, firstOf, andThen, clear, firstCode}
+use Rattle.fields.specs.declared.answer.Answer.{Answer}
+use Rattle.fields.specs.declared.answer.Answer.the-variants.{Accepted, Refused}
 use Rattle.entries.specs.Sheet.{blankCourse, held, heightOf, tankOf, siteOf, anchorsOf, tankFlaws, siteFlaws, anchorFlaws}
 use Rattle.entries.specs.declared.sheet.Course.{Course}
 use Rattle.entries.specs.declared.sheet.TankEntry as TankEntry
 use Rattle.entries.specs.declared.sheet.SiteEntry as SiteEntry
 use Rattle.entries.specs.declared.sheet.AnchorsEntry as AnchorsEntry
 use Rattle.entries.specs.declared.sheet.Sheet.{Sheet}
-use Rattle.fields.specs.declared.answer.Answer.{Answer}
-use Rattle.fields.specs.declared.answer.Answer.the-variants.{Accepted, Refused}
 use Rattle.parts.specs.Parts.{siteBlank, anchorsBlank, coursesClear}
 use Rattle.sheet.specs.Steps.{tankBlank, reachable, unreachable}
 use Rattle.sheet.specs.declared.complete.Entries.{Entries}

@@ -10,13 +10,13 @@ use lib.ListN.{length, take, drop}
 use Rattle.fields.specs.Refusal.{plain}
 use Rattle.fields.specs.declared.refusal.Code.{Code}
 use Rattle.fields.specs.Order.{firstOf, firstCode, answerCode}
+use Rattle.fields.specs.declared.answer.Answer.{Answer}
+use Rattle.fields.specs.declared.answer.Answer.the-variants.{Accepted, Refused}
 use Rattle.entries.specs.Sheet.{emptySheet, held, heightOf}
 use Rattle.entries.specs.declared.sheet.Tank.{Tank}
 use Rattle.entries.specs.declared.sheet.Site.{Site}
 use Rattle.entries.specs.declared.sheet.Anchors.{Anchors}
 use Rattle.entries.specs.declared.sheet.Sheet.{Sheet}
-use Rattle.fields.specs.declared.answer.Answer.{Answer}
-use Rattle.fields.specs.declared.answer.Answer.the-variants.{Accepted, Refused}
 use Rattle.layout.specs.Numbers.{twoIn}
 use Rattle.layout.specs.Layout.{Version, version1}
 use Rattle.layout.specs.Header.{tankIn, siteIn, anchorsIn, coursesIn, tailIn, countOf, readOrder}

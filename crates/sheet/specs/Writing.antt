@@ -9,9 +9,9 @@ use Rattle.fields.specs.Refusal.{plain, codeOf}
 use Rattle.fields.specs.declared.refusal.Code.{Code}
 use Rattle.fields.specs.declared.refusal.Refusal.the-variants.{BufferTooShort}
 use Rattle.fields.specs.Order.{Condition, _when_, firstOf, firstCode}
-use Rattle.entries.specs.declared.sheet.Sheet.{Sheet}
 use Rattle.fields.specs.declared.answer.Answer.{Answer}
 use Rattle.fields.specs.declared.answer.Answer.the-variants.{Accepted, Refused}
+use Rattle.entries.specs.declared.sheet.Sheet.{Sheet}
 use Rattle.layout.specs.Layout.{version1, wholeLength, layout}
 use Rattle.sheet.specs.Complete.{completeOrder, entriesOf, coursesOf}
 use Rattle.sheet.specs.declared.complete.Entries.{Entries}

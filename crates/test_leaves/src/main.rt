@@ -1,6 +1,6 @@
 // Runs vectors for the leaf functions, and for questions without a sheet. Standard input is lines of five
-// numbers: which function, and its arguments, 0 where it has fewer than four. Each line's reply is written on a line of its own.
-// oracle/leaves.py numbers the functions, and makes both the vectors and what is to be written.
+// numbers: which function, and its arguments, 0 where it has fewer than four. Each line's reply is written on a
+// line of its own. oracle/leaves.py numbers the functions, and makes both the vectors and what is to be written.
 mod clamp;
 mod exact_leaves;
 mod field_leaves;

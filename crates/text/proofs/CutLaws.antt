@@ -11,9 +11,9 @@ use lib.Seq.{getD-take, length-take-le}
 use Rattle.fields.specs.declared.refusal.Refusal.{Refusal}
 use Rattle.fields.specs.declared.refusal.Refusal.the-variants.{TooManyBytes, BadLength}
 use Rattle.fields.specs.Order.{firstOf}
-use Rattle.entries.specs.Sheet.{emptySheet}
 use Rattle.fields.specs.declared.answer.Answer.{Answer}
 use Rattle.fields.specs.declared.answer.Answer.the-variants.{Refused}
+use Rattle.entries.specs.Sheet.{emptySheet}
 use Rattle.layout.specs.Numbers.{twoIn}
 use Rattle.layout.specs.Layout.{version1}
 use Rattle.layout.specs.Header.{isLength, readOrder}

@@ -1,7 +1,7 @@
 -- `entries::flaws::course_flaw` meets its contract. Assumes nothing.
-use Rattle.entries.specs.Sheet.{courseFlaws}
 use Rattle.fields.specs.declared.answer.Answer.the-variants.{Accepted}
 use Rattle.fields.proofs.OrderLaws.{through-first, coded}
+use Rattle.entries.specs.Sheet.{courseFlaws}
 use Rattle.entries.proofs.flaws.course_flaw.Statement.{statement}
 use Rattle.entries.proofs.flaws.course_flaw.Tie as tie
 

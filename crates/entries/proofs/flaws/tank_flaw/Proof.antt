@@ -1,7 +1,7 @@
 -- `entries::flaws::tank_flaw` meets its contract. Assumes nothing.
-use Rattle.entries.specs.Sheet.{tankFlaws}
 use Rattle.fields.specs.declared.answer.Answer.the-variants.{Accepted}
 use Rattle.fields.proofs.OrderLaws.{through-first, coded}
+use Rattle.entries.specs.Sheet.{tankFlaws}
 use Rattle.entries.proofs.flaws.tank_flaw.Statement.{statement}
 use Rattle.entries.proofs.flaws.tank_flaw.Tie as tie
 

@@ -31,9 +31,6 @@ array-read-times-4 c = omega (arith, inside _ _ (c .before .before .if1 .left) (
 times-requires-4 : tie.Need-times-requires-4
 times-requires-4 c κs = omega (arith, inside _ _ (c .before .before .if1 .left) (c .before .if2 .left))
 
-add-result : tie.Need-add-result
-add-result c = search needs
-
 next : (k : ℕ) → suc k - 1 ≡ k
 next k = omega arith
 
@@ -65,5 +62,5 @@ coefficient-spec =
     (λ c κs. search needs)
     array-read-times-4
     times-requires-4
-    add-result
+    (λ c. search needs)
     returns-3)

@@ -1,5 +1,6 @@
 -- `ground::motion::ground_motion` meets its contract. Assumes nothing.
 use mathlib.Core.Path.{ap}
+use native.Mathlib.Omega.{arith}
 use borrow.Author.Needs.{needs}
 use borrow.Author.Tests.{le-leb, lt-leb, lt-ltb, le-ltb}
 use Rattle.ground.specs.Motion.{groundMotion}
@@ -14,20 +15,20 @@ returns c = motion-clauses _ _ _ (rw (lt-leb 65 _ (c .if1 .taken)))
 
 returns-2 : tie.Need-returns-2
 unfolding groundMotion
-returns-2 c = motion-clauses _ _ _ (rw (le-leb 65 _ (c .before .if1 .left), lt-leb _ 69 (c .if2 .taken)))
+returns-2 c = motion-clauses _ _ _ (rw (le-leb 65 _ (c .before .if1 .left), lt-leb (c .before .before .args .class) 69 (omega (arith, c .if2 .taken))))
 
 returns-3 : tie.Need-returns-3
 unfolding groundMotion
 returns-3 c =
     let d = c .before in
-    motion-clauses _ _ _ (rw (le-leb 65 _ (d .before .if1 .left), le-leb _ 69 (d .if2 .left), lt-ltb 3000 _ (c .if3 .taken)))
+    motion-clauses _ _ _ (rw (le-leb 65 _ (d .before .if1 .left), le-leb _ 69 (d .if2 .left), lt-ltb 3000 (d .before .before .args .ss) (omega (arith, c .if3 .taken))))
 
 returns-4 : tie.Need-returns-4
 unfolding groundMotion
 returns-4 c =
     let d = c .before .before in
     motion-clauses _ _ _
-    (rw (le-leb 65 _ (d .before .if1 .left), le-leb _ 69 (d .if2 .left), le-ltb 3000 _ (c .before .if3 .left), lt-ltb 3000 _ (c .if4 .taken)))
+    (rw (le-leb 65 _ (d .before .if1 .left), le-leb _ 69 (d .if2 .left), le-ltb 3000 _ (c .before .if3 .left), lt-ltb 3000 (d .before .before .args .s1) (omega (arith, c .if4 .taken))))
 
 returns-5 : tie.Need-returns-5
 unfolding groundMotion

@@ -4,8 +4,8 @@ use Prim.Native.Nat.{_-_, _≤_}
 use native.Mathlib.Omega.{arith}
 use lib.ListN.{take, drop}
 use borrow.Author.Tests.{not-true, not-false}
-use Rattle.entries.specs.Sheet.{blankCourse, courseFlaws}
 use Rattle.fields.specs.Order.{accepts, clear}
+use Rattle.entries.specs.Sheet.{blankCourse, courseFlaws}
 use Rattle.parts.specs.Parts.{coursesClear}
 use Rattle.lists.proofs.EachLaws.{each-of-here, each-of-next, each-of-end}
 use Rattle.parts.proofs.slots.courses_clear.Statement.{statement}

@@ -1,7 +1,7 @@
 -- `parts::stated::anchors_clear` meets its contract. Assumes nothing.
 use borrow.Author.Needs.{needs}
-use Rattle.entries.specs.Sheet.{anchorFlaws}
 use Rattle.fields.proofs.OrderLaws.{clear-of}
+use Rattle.entries.specs.Sheet.{anchorFlaws}
 use Rattle.parts.proofs.stated.anchors_clear.Statement.{statement}
 use Rattle.parts.proofs.stated.anchors_clear.Tie as tie
 

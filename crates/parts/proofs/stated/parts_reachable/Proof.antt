@@ -2,8 +2,8 @@
 use mathlib.Core.Path.{_∙_, sym}
 use borrow.Author.Tests.{not-true, not-false}
 use borrow.Author.Needs.{needs}
-use Rattle.entries.specs.Sheet.{tankFlaws}
 use Rattle.fields.proofs.OrderLaws.{clear-of}
+use Rattle.entries.specs.Sheet.{tankFlaws}
 use Rattle.parts.proofs.stated.parts_reachable.Statement.{statement}
 use Rattle.parts.proofs.stated.parts_reachable.Tie as tie
 

@@ -1,7 +1,7 @@
 -- `parts::stated::site_clear` meets its contract. Assumes nothing.
 use borrow.Author.Needs.{needs}
-use Rattle.entries.specs.Sheet.{siteFlaws}
 use Rattle.fields.proofs.OrderLaws.{clear-of}
+use Rattle.entries.specs.Sheet.{siteFlaws}
 use Rattle.parts.proofs.stated.site_clear.Statement.{statement}
 use Rattle.parts.proofs.stated.site_clear.Tie as tie
 

@@ -7,10 +7,10 @@ use native.Mathlib.Omega.{arith}
 use lib.ListN.{length, take, drop, length-set}
 use borrow.Author.Needs.{needs}
 use borrow.Author.Tests.{ltb-false}
-use Rattle.entries.specs.Sheet.{tooHigh, heightOf, courseFlaws}
 use Rattle.fields.specs.declared.answer.Answer.the-variants.{Accepted}
-use Rattle.entries.proofs.CourseLaws.{height-set}
 use Rattle.fields.proofs.OrderLaws.{first-append, first-cons}
+use Rattle.entries.specs.Sheet.{tooHigh, heightOf, courseFlaws}
+use Rattle.entries.proofs.CourseLaws.{height-set}
 use Rattle.layout.specs.Header.{coursesIn}
 use Rattle.sheet.specs.Steps.{addCourse, inTurn}
 use Rattle.sheet.specs.Reading.{fromCourses, beforeCourses, withHeight}

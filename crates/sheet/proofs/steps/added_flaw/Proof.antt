@@ -2,8 +2,8 @@
 use mathlib.Core.Path.{sym}
 use mathlib.Core.List.{[], _∷_}
 use borrow.Author.Needs.{needs}
-use Rattle.entries.specs.Sheet.{tooHigh, courseFlaws}
 use Rattle.fields.proofs.OrderLaws.{first-then}
+use Rattle.entries.specs.Sheet.{tooHigh, courseFlaws}
 use Rattle.sheet.proofs.steps.added_flaw.Statement.{statement}
 use Rattle.sheet.proofs.steps.added_flaw.Tie as tie
 

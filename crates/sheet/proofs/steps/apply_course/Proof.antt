@@ -2,8 +2,8 @@
 use mathlib.Core.Path.{_∙_, sym, ap}
 use mathlib.Core.List.{[], _∷_, _++_}
 use borrow.Author.Needs.{needs}
-use Rattle.entries.specs.Sheet.{tooHigh, courseFlaws}
 use Rattle.fields.specs.Order.{firstOf}
+use Rattle.entries.specs.Sheet.{tooHigh, courseFlaws}
 use Rattle.sheet.specs.Steps.{addCourse, filled, replied}
 use Rattle.sheet.proofs.StepLaws.{course-applied, course-early, course-full}
 use Rattle.sheet.proofs.steps.apply_course.Statement.{statement}
