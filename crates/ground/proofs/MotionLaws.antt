@@ -23,9 +23,9 @@ use Rattle.fields.proofs.OrderLaws.{clash, first-cons, first-code, first-exactl
 use Rattle.fields.proofs.RefusalLaws.{never-zero}
 use Rattle.ground.specs.Chart.{Chart, fa, fv, rowOf, interpolated, coefficientOf}
 use Rattle.ground.specs.Motion.{isClass, mostMapped, designExact, over, designOf, sdsDen, sd1Den, sdsOf, sd1Of, verticalExact, verticalOf, valuesOf, otherClass, tooLarge, motionOrder, givenUnless, groundMotion, noValues, motionCode, groundMotionCode, WithoutLoss, greatest, ValuesJustified, ReplyJustified}
-use Rattle.ground.proofs.ChartLaws.{interpolates, interpolation-unique}
 use Rattle.ground.specs.declared.motion.GroundMotion as GroundMotion
 use Rattle.ground.specs.declared.motion.DesignValues.{DesignValues}
+use Rattle.ground.proofs.ChartLaws.{interpolates, interpolation-unique}
 
 -- ---- the figures
 
@@ -111,13 +111,17 @@ worked-out class Ss S1 e f g = rw (g, e, f, sds-product class Ss, sd1-product cl
 
 -- ---- the answer
 
+-- values are no refusal
+no-refusal : {X : Type 0} {v : DesignValues} {r : Refusal} → GroundMotion.the-variants.Given v ≡ GroundMotion.the-variants.Refused r → X
+no-refusal e = absurd (let z : _≡_ {A = ℕ} 0 1 = cc in omega arith)
+
 refused-as : (a : Answer) (v : DesignValues) (r : Refusal) → (givenUnless a v ≡ GroundMotion.the-variants.Refused r) ↔ (a ≡ Refused r)
-refused-as Accepted v r = (λ e. absurd (let z : _≡_ {A = ℕ} 0 1 = cc in omega arith), λ e. clash (sym e))
+refused-as Accepted v r = (no-refusal, λ e. clash (sym e))
 refused-as (Refused x) v r = (λ e. cc, λ e. cc)
 
 given-as : (a : Answer) (v : DesignValues) → (givenUnless a v ≡ GroundMotion.the-variants.Given v) ↔ (a ≡ Accepted)
 given-as Accepted v = (λ e. refl, λ e. refl)
-given-as (Refused r) v = (λ e. absurd (let z : _≡_ {A = ℕ} 0 1 = cc in omega arith), clash)
+given-as (Refused r) v = (λ e. no-refusal (sym e), clash)
 
 module _ (class Ss S1 : ℕ) where
   -- the documents' numbers, in their order
