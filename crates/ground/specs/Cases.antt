@@ -8,8 +8,8 @@ use lib.ListN.{getD}
 use Rattle.lists.specs.Ascii.{ascii}
 use Rattle.fields.specs.Refusal.{plain}
 use Rattle.ground.specs.Chart.{Chart, row, coefficientOf}
-use Rattle.ground.specs.declared.motion.DesignValues.{DesignValues}
 use Rattle.ground.specs.Motion.{isClass, MotionCode, sdsOf, sd1Of, verticalOf, motionCode, groundMotion}
+use Rattle.ground.specs.declared.motion.DesignValues.{DesignValues}
 
 abbrev pub table26 : List (List ℕ)
 table26 =

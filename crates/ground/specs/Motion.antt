@@ -50,7 +50,8 @@ sdsOf class Ss = designOf fa sdsDen class Ss
 unfoldable pub sd1Of : ℕ → ℕ → ℕ
 sd1Of class S1 = designOf fv sd1Den class S1
 
--- Av, "0.14 × SDS, rounded up to a thousandth" (source 003, Sec. 13.5.4.3): in thousandths it is 140 × SDS, first exact, then rounded
+-- Av, "0.14 × SDS, rounded up to a thousandth" (0.14 also in source 003, Sec. 13.5.4.3): in thousandths it is 140 × SDS, first exact, then
+-- rounded
 abbrev pub verticalExact : ℕ → Ratio
 verticalExact sds = record { num = 140 * sds; den = sdsDen }
 
