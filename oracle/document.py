@@ -1,7 +1,7 @@
 """Document 01 ("Flat-bottom steel water tanks: the check sheet") as data and rules.
 
-Written from the document alone, with request S-1 of document 02 and the refusals of
-S-2, whose rules are ground.py's. Every figure is first an exact Fraction, then rounded
+Written from the document alone, with requests S-1 and S-3 of document 02 and the refusals
+of S-2, whose rules are ground.py's. Every figure is first an exact Fraction, then rounded
 as the document says. Letters (D, H, W, ...) are the document's; lengths are hundredths
 of an inch, plates mils, weights pounds, moments foot-pounds.
 """
@@ -44,6 +44,8 @@ COURSE_FIELDS = (15, 16, 17, 18, 19)
 MOST_COURSES = 12
 MOST_SHELL_HEIGHT = 76_800
 
+D100, API_650 = METHODS = (1, 2)    # request S-3: "1 for D100, 2 for API 650"
+
 
 def field_in_range(field, figure):
     if field not in FIELD_RANGES:
@@ -77,6 +79,7 @@ REFUSALS = {
     38: "anchors never stated",
     40: "Ss or S1 above 3,000",
     41: "a site class other than A to E",
+    42: "a method other than D100 and API 650",
 }
 FIELD_REFUSAL = 16  # the only one that gives a field
 
@@ -112,8 +115,16 @@ def course_refusal(tank_stated, courses_held, shell_height, course):
     return None
 
 
-def judge_refusal(tank_stated, courses_held, site_stated, anchors_stated, H, shell_height):
-    """Order: 32, 35, 36, 38, 37; S-1 has 38 "straight after 36"."""
+def method_refusal(method):
+    return None if method in METHODS else (42, 0)
+
+
+def judge_refusal(method, tank_stated, courses_held, site_stated, anchors_stated, H,
+                  shell_height):
+    """Order: 42, 32, 35, 36, 38, 37; S-1 has 38 "straight after 36", S-3 has 42 "before 32"."""
+    no_method = method_refusal(method)
+    if no_method is not None:
+        return no_method
     if not tank_stated:
         return 32, 0
     if courses_held == 0:
@@ -193,15 +204,24 @@ def verdict(need, capacity):
     return Verdict(need <= capacity, use_bits(need, capacity))
 
 
-# --- "The rules": hoop --------------------------------------------------------
+# --- "The rules": hoop; request S-3 -------------------------------------------
+
+FOOT = 1_200
+
 
 def course_head(H, bottom_edge):
     """h: H less the height of the course's bottom edge, or 0."""
     return max(H - bottom_edge, 0)
 
 
+def hoop_head(method, h):
+    """What stands in the method's formula for h: by API 650 "(h - 1 ft)", and "zero when h is
+    one foot or less"."""
+    return max(h - FOOT, 0) if method == API_650 else h
+
+
 def hoop_need(h, D, s, E):
-    """Mils, without the allowance c."""
+    """Mils, without the allowance c; h as the method has it."""
     return ceil(Fraction(13 * h * D, 72 * s * E))
 
 
@@ -374,8 +394,8 @@ def self_test():
     # the other cases
     assert (house_floor(60_000), house_floor(60_001)) == (188, 250)
     assert (house_floor(144_000), house_floor(144_001)) == (250, 313)
-    assert judge_refusal(True, 3, True, True, 28_800, Hs) is None
-    assert judge_refusal(True, 3, True, True, 28_801, Hs) == (37, 0)
+    assert judge_refusal(D100, True, 3, True, True, 28_800, Hs) is None
+    assert judge_refusal(D100, True, 3, True, True, 28_801, Hs) == (37, 0)
     assert course_refusal(True, 3, Hs, course) is None
     too_high = (14_400, t, c, s, E)
     assert course_refusal(True, 11, 70_000, too_high) == (34, 0)
@@ -383,12 +403,22 @@ def self_test():
 
     # anchors never stated
     for H in (28_800, 28_801):
-        assert judge_refusal(True, 3, True, False, H, Hs) == (38, 0)
-        assert judge_refusal(True, 3, False, False, H, Hs) == (36, 0)
+        assert judge_refusal(D100, True, 3, True, False, H, Hs) == (38, 0)
+        assert judge_refusal(D100, True, 3, False, False, H, Hs) == (36, 0)
+
+    # S-3: "The tank in source document 002 ... needs 49, 32 and 15 mils"; by D100 50.94, 33.96
+    # and 16.98 are rounded up
+    for method, expected in ((API_650, [49, 32, 15]), (D100, [51, 34, 17])):
+        assert [hoop_need(hoop_head(method, h), D, 21_000, 70) for h in heads] == expected
+    assert [hoop_head(API_650, h) for h in (0, 1_199, 1_200, 1_201, 28_800)] == [0, 0, 0, 1, 27_600]
+    for method, refusal in ((0, (42, 0)), (1, None), (2, None), (3, (42, 0))):
+        assert judge_refusal(method, True, 3, True, True, 28_800, Hs) == refusal
+    assert judge_refusal(3, False, 0, False, False, 0, 0) == (42, 0)
+    assert judge_refusal(2, False, 0, False, False, 0, 0) == (32, 0)
 
     # data
     assert list(FIELD_RANGES) == list(range(1, 20))
-    assert list(REFUSALS) == [*range(11, 20), *range(30, 39), 40, 41]
+    assert list(REFUSALS) == [*range(11, 20), *range(30, 39), 40, 41, 42]
     assert [n for n in range(8) if field_in_range(ANCHORS_FIELD, n)] == [0, 6, 7]
 
     # ties to even: they need a side of 2**53 or more (see leaves.quotient_edges)

@@ -1,21 +1,25 @@
 """The vectors of JUDGE_HELD: sheets filled in by steps, read or forged, and judged as they stand.
 
 The groups yield scripts, as in scripts.py. A turn is a record, its word and what is said, by
-hand, of judging the sheet that it leaves; from there the next turn goes on.
+hand, of judging the sheet that it leaves, by D100 or by each of several methods; from there the
+next turn goes on.
 `python3 oracle groups` lists the records, and so the lines, of each group.
 """
 
 from collections import Counter
 from functools import cache
-from itertools import cycle, permutations
+from itertools import cycle, permutations, product
 from random import Random
 
+import document as doc
 import example
 import judged
 import near
 import scripts
 import sheet as model
-from judged import changed, course_changed, self_anchored, with_widths
+from document import API_650, D100
+from judged import GROWER, changed, course_changed, self_anchored, with_widths
+from leaves import NO_METHODS
 from records import (
     JUDGE_HELD, MOST_BUFFER, NO_REPORT_TEXT, OPENING, READ, STEPS, anchors, as_bytes, course,
     figures_record, forge, in_turn, judge, judge_held, mark, new, outcomes, read, site, tank,
@@ -38,16 +42,25 @@ def says(line, said):
     return all(one in ("..", word) for one, word in zip(said.split(), line.split()))
 
 
-def judged_after_each(*turns):
-    """A script of these turns, the first of which sets the current sheet."""
+def judged_by_methods(*turns):
+    """A script of these turns, the first of which sets the current sheet; what is said
+    maps each method to its words, in the order in which they are asked."""
     script = []
-    for record, _word, _said in turns:
-        script += record, judge_held()
-    results = list(outcomes(script))
-    for (_record, word, said), own, held in zip(turns, results[::2], results[1::2], strict=True):
+    for record, _word, said_by in turns:
+        script += record, *map(judge_held, said_by)
+    results = outcomes(script)
+    for _record, word, said_by in turns:
+        own = next(results)
         assert own.word == word, (word, own)
-        assert says(held.line(), said), (said, held.line())
+        for said in said_by.values():
+            line = next(results).line()
+            assert says(line, said), (said, line)
     return script
+
+
+def judged_after_each(*turns):
+    """The same by D100."""
+    return judged_by_methods(*((record, word, {D100: said}) for record, word, said in turns))
 
 
 def anchored_report(wind, pulls, n, spacing="holds", strength="holds"):
@@ -110,20 +123,20 @@ def said_briefly(brief):
     return {"0": SELF_SAID, "6": SIX_SAID}.get(brief, f"refused {brief}")
 
 
-def accepted_steps(order, briefs):
+def accepted_steps(order, briefs, letters=LETTERS, said=said_briefly):
     """Turns of the steps with these letters, each of which is accepted."""
     for letter, brief in zip(order, briefs.split(), strict=True):
-        yield LETTERS[letter], "ok", said_briefly(brief)
+        yield letters[letter], "ok", said(brief)
 
 
-def from_empty(order, briefs):
+def from_empty(order, briefs, letters=LETTERS, said=said_briefly):
     """Turns of the empty sheet, of steps that are refused for want of a tank, and of those from
     the tank on."""
-    yield new(), "held", "refused 32"
+    yield new(), "held", said("32")
     refused = order.index("t")
     for letter in order[:refused]:
-        yield LETTERS[letter], "refused 32", "refused 32"
-    yield from accepted_steps(order[refused:], briefs)
+        yield letters[letter], "refused 32", said("32")
+    yield from accepted_steps(order[refused:], briefs, letters, said)
 
 
 LEFT_OUT = (        # the anchors are, or they come before the tank; said from the tank on
@@ -357,6 +370,101 @@ def judged_beside_others():
                                 (judge_held(), answer, said))
 
 
+# --- The grower's tank, which is sound by API 650 alone -----------------------
+
+GROWER_BYTES = model.sheet_as_bytes(GROWER)
+GROWER_LETTERS = {**LETTERS, "t": tank(GROWER.tank), "c": course(GROWER.courses[0])}
+GROWER_STANDS = {   # by the letter of its anchors
+    "6": "wind 2123 73371 anchored 909 -1435 holds .. holds .. uses .. .. courses 3",
+    "0": "wind 2123 73371 self holds .. 122400 none holds .. uses .. .. courses 3",
+}
+GROWER_WORDS = {    # and by the method, before that and after it
+    D100: ("accepted short", "| 51 190 188 short .. | 34 188 188 holds .. | 17 188 188 holds"),
+    API_650: ("accepted sound", "| 49 188 188 holds .. | 32 188 188 holds .. | 15 188 188 holds"),
+}
+
+
+def grower_said(brief, method):
+    """30 goes before 42, and 42 before every other refusal."""
+    if brief == "30":
+        return "refused 30"
+    if method not in doc.METHODS:
+        return "refused 42"
+    if brief not in GROWER_STANDS:
+        return f"refused {brief}"
+    before, after = GROWER_WORDS[method]
+    return f"{before} {GROWER_STANDS[brief]} {after}"
+
+
+def in_many_orders():
+    """Without end: what a brief says by both methods and by a number that is none, asked in one
+    order after the other."""
+    orders = cycle(permutations((0, 1, 2)))
+    for number, order in zip(cycle(NO_METHODS), orders):
+        numbers = (*doc.METHODS, number)
+        methods = [numbers[place] for place in order]
+        yield lambda brief, methods=methods: {one: grower_said(brief, one) for one in methods}
+
+
+# --- Groups: by either method, and by none ------------------------------------
+
+
+def filled_in_by_methods():
+    """Whatever it is judged by, the sheet goes on as it was."""
+    for (order, briefs), said in zip((*LEFT_OUT[::4], *BETWEEN[::2]), in_many_orders()):
+        yield judged_by_methods(*from_empty(order, briefs, GROWER_LETTERS, said))
+
+
+def restated_by_methods():
+    """Read or forged, then written, refused and stated again."""
+    openings = ((read(GROWER_BYTES), "ok"), (forge(GROWER), "held"))
+    for (opening, word), said in zip(openings, in_many_orders()):
+        yield judged_by_methods(
+            (opening, word, said("6")), (write(120, 1), "wrote 120", said("6")),
+            (NO_ANCHORS, "ok", said("0")), (write(119, 2), "refused 19", said("0")),
+            (anchors((6, 14_399, 8)), "refused 18", said("0")),
+            (tank(GROWER.tank), "refused 31", said("0")), (SIX_ANCHORS, "ok", said("6")),
+            (site(with_outside(example.SITE, 7)), "refused 16 7", said("6")),
+            (write(120, 3), "wrote 120", said("6")), (read(b""), "refused 11", said("32")))
+
+
+def forged_by_methods():
+    tank_only = model.held(GROWER.tank, None, None, ())
+    for (sheet, brief), said in zip((
+            (model.EMPTY, "32"), (tank_only, "35"), (tank_only._replace(site=GROWER.site), "35"),
+            (self_anchored(tank_only), "35"), (GROWER._replace(site=None), "36"),
+            (unstated(GROWER)._replace(site=None), "36"), (unstated(GROWER), "38"),
+            (unstated(changed(GROWER, H=28_801)), "38"), (changed(GROWER, H=28_801), "37"),
+            (GROWER, "6"), (self_anchored(GROWER), "0"), (GROWER._replace(count=4), "30"),
+            (GROWER._replace(tank=None), "30"), (changed(GROWER, D=11_999), "30"),
+            (with_slot(unstated(GROWER), 11, LOW_COURSE), "30"),
+            (model.EMPTY._replace(site=GROWER.site), "30")), in_many_orders()):
+        yield judged_by_methods((forge(sheet), "held", said(brief)))
+
+
+def methods_in_turn():
+    """The method of one question is nothing to the next, whichever sheet it is about; bytes are
+    judged by D100 throughout."""
+    by_d100, by_api_650 = (grower_said("6", method) for method in doc.METHODS)
+    questions = (
+        (judge_held(API_650), by_api_650), (mark(GROWER_BYTES), by_d100),
+        (judge_held(API_650), by_api_650), (judge(GROWER), by_d100), (judge_held(), by_d100),
+        (judge(GROWER, API_650), by_api_650), (mark(GROWER_BYTES), by_d100),
+        (judge_held(), by_d100), (judge(GROWER, 3), "refused 42"), (mark(GROWER_BYTES), by_d100),
+        (judge_held(API_650), by_api_650), (judge_held(0), "refused 42"),
+        (judge_held(API_650), by_api_650), (judge_held(2**8 + 1), "refused 42"),
+        (judge_held(), by_d100), (judge(model.EMPTY, API_650), "refused 32"),
+        (judge_held(API_650), by_api_650), (judge(GROWER._replace(count=4), 0), "refused 30"),
+        (judge_held(API_650), by_api_650), (mark(b""), "refused 11"), (judge_held(), by_d100),
+    )
+    for opening in (read(GROWER_BYTES), forge(GROWER)):
+        script = [opening, *(record for record, _said in questions)]
+        _own, *results = outcomes(script)
+        for (_record, said), result in zip(questions, results, strict=True):
+            assert says(result.line(), said), (said, result.line())
+        yield script
+
+
 # --- Groups: at random, from fixed seeds --------------------------------------
 
 
@@ -405,6 +513,21 @@ def random_fills():
         yield script
 
 
+def random_fills_by_methods():
+    """Drawn near what either method requires, and judged by both, and at times by neither, while
+    they are filled in."""
+    rng = Random(23)
+    for draw, method in product((near.self_anchored_sheet, near.anchored_sheet), doc.METHODS * 2):
+        sheet = draw(rng, method)
+        script = []
+        for record in filled_in(rng, sheet):
+            script += record, judge_held(rng.choice((*doc.METHODS, rng.choice(NO_METHODS))))
+        script += map(judge_held, rng.sample(doc.METHODS, 2))
+        *_before, last = outcomes(script)
+        assert last.sheet == sheet and last.word == "accepted"
+        yield script
+
+
 # --- All groups ---------------------------------------------------------------
 
 GROUPS = (
@@ -413,6 +536,8 @@ GROUPS = (
     forged_by_no_run, forged_then_filled_in,
     judged_beside_others,
     random_runs, random_fills,
+    filled_in_by_methods, restated_by_methods, forged_by_methods, methods_in_turn,
+    random_fills_by_methods,
 )
 
 
@@ -439,44 +564,51 @@ def held_results():
 
 
 def check_same_line():
-    """The line is JUDGE's for that sheet and, if it can be written, MARK's for its bytes."""
+    """The line is JUDGE's for that sheet and method and, if it can be written, MARK's for its
+    bytes by D100."""
     for result in held_results():
-        sheet = result.sheet
-        assert result.line() == judged.outcome(judge(sheet)).line()
-        if model.write_refusal(sheet, MOST_BUFFER) is None:
+        sheet, method = result.sheet, result.judged.method
+        assert result.line() == judged.outcome(judge(sheet, method)).line()
+        if method == D100 and model.write_refusal(sheet, MOST_BUFFER) is None:
             assert result.line() == judged.outcome(mark(model.sheet_as_bytes(sheet))).line()
 
 
 def check_after_reading():
-    """A sheet that was read lacks nothing, whatever steps follow: 37 alone can be the answer."""
+    """A sheet that was read lacks nothing, whatever steps follow: 37 alone can be the answer, and
+    42 if the method is none."""
     was_read = False
     for record, result in zip(all_records(), all_outcomes(), strict=True):
         if record.opcode in OPENING:
             was_read = record.opcode == READ and result.word == "ok"
         elif record.opcode == JUDGE_HELD and was_read:
-            assert result.word in ("accepted", "refused 37")
+            known = result.judged.method in doc.METHODS
+            assert result.word in (("accepted", "refused 37") if known else ("refused 42",))
 
 
 def check_spread():
-    """Every refusal of judging, both words by both ways of standing, after every record."""
+    """Every refusal of judging, both words by both ways of standing and by both methods, after
+    every record."""
     results = held_results()
     words = {result.word for result in results}
-    assert words == {"accepted", *(f"refused {number}" for number in (30, 32, *range(35, 39)))}
-    reports = Counter((result.judged.word(), type(result.judged.report.standing))
+    assert words == {"accepted", *(f"refused {number}" for number in (30, 32, *range(35, 39), 42))}
+    reports = Counter((result.judged.word(), type(result.judged.report.standing),
+                       result.judged.method)
                       for result in results if result.word == "accepted")
-    assert len(reports) == 4 and sum(reports.values()) >= LEAST_REPORTS
-    records = all_records()
-    before = {one.opcode for one, other in zip(records, records[1:]) if other == judge_held()}
-    after = {other.opcode for one, other in zip(records, records[1:]) if one == judge_held()}
+    assert len(reports) == 8 and sum(reports.values()) >= LEAST_REPORTS
+    opcodes = [record.opcode for record in all_records()]
+    before = {one for one, other in zip(opcodes, opcodes[1:]) if other == JUDGE_HELD}
+    after = {other for one, other in zip(opcodes, opcodes[1:]) if one == JUDGE_HELD}
     assert before == after == {*range(JUDGE_HELD + 1)}
 
 
 def self_test():
-    assert as_bytes(judge_held()) == b"\x0a\0\0"
+    assert as_bytes(judge_held()) == b"\x0a\0\4\0\0\0\1"
+    assert as_bytes(judge_held(2**32 - 2)) == b"\x0a\0\4\xff\xff\xff\xfe"
     records, results = all_records(), all_outcomes()
     scripts.check_outcomes(records, results)
     judged.check_demand_3(results)
     judged.check_beside_writing(records, results)
+    judged.check_beside_d100(results)
     check_same_line()
     check_after_reading()
     check_spread()

@@ -1,9 +1,10 @@
 """The judging vectors: sheets handed in for judging, in named groups.
 
-A record is one of two: MARK, bytes to be read and judged, or JUDGE, a sheet built by hand and
-judged as it is. A group yields cases: a case is the records by which one sheet is handed in,
-and `sound`, `short` and `refused` also say, by hand, what the answer to each of them is to be.
-`python3 oracle groups` lists the records, and so the lines, of each group.
+A record is one of two: MARK, bytes to be read and judged by D100, or JUDGE, a sheet built by hand
+and judged as it is, by the method stated with it. A group yields cases: a case is the records by
+which one sheet is handed in, and `sound`, `short` and `refused` also say, by hand, what the answer
+to each of them is to be. `python3 oracle groups` lists the records, and so the lines, of each
+group.
 """
 
 from collections import Counter
@@ -16,10 +17,11 @@ import judging
 import near
 import scripts
 import sheet as model
-from judging import FULL_HEADS
-from leaves import beside, hexadecimal
+from document import API_650, D100
+from judging import FULL_HEADS, FULL_HEADS_A_FOOT_UP
+from leaves import NO_METHODS, beside, hexadecimal
 from records import (
-    JUDGE, JUDGING, MARK, MOST_BUFFER, NO_REPORT_TEXT, in_turn, judge, mark, outcome_on,
+    JUDGE, JUDGING, MARK, MOST_BUFFER, NO_REPORT_TEXT, forge, in_turn, judge, mark, outcome_on,
     refusal_word, to_judge,
 )
 from scripts import (
@@ -38,9 +40,10 @@ def outcome(record):
     return outcome_on(None, record)
 
 
-def handed_in(sheet):
-    """A complete sheet, as bytes and as it is."""
-    return mark(model.sheet_as_bytes(sheet)), judge(sheet)
+def handed_in(sheet, method=D100):
+    """A complete sheet, as bytes, for which D100 alone is used, and as it is."""
+    as_bytes = (mark(model.sheet_as_bytes(sheet)),) if method == D100 else ()
+    return *as_bytes, judge(sheet, method)
 
 
 def has_part(line, part):
@@ -48,8 +51,8 @@ def has_part(line, part):
     return f" {part} " in f" {line} "
 
 
-def reported(sheet, short_rules, shows):
-    records = handed_in(sheet)
+def reported(sheet, short_rules, shows, method=D100):
+    records = handed_in(sheet, method)
     for record in records:
         result = outcome(record)
         assert result.judged.refusal is None, result
@@ -58,18 +61,31 @@ def reported(sheet, short_rules, shows):
     return records
 
 
-def sound(sheet, shows=""):
+def sound(sheet, shows="", method=D100):
     """The sheet, every check of which holds; its line has this part."""
-    return reported(sheet, [], shows)
+    return reported(sheet, [], shows, method)
 
 
-def short(sheet, *rules, shows=""):
+def short(sheet, *rules, shows="", method=D100):
     """The sheet, of whose checks these and no other fall short."""
-    return reported(sheet, list(rules), shows)
+    return reported(sheet, list(rules), shows, method)
 
 
-def sound_if(holds, sheet, *rules, shows=""):
-    return sound(sheet, shows) if holds else short(sheet, *rules, shows=shows)
+def sound_if(holds, sheet, *rules, shows="", method=D100):
+    return reported(sheet, [] if holds else list(rules), shows, method)
+
+
+def report_on(sheet, method=D100):
+    return outcome(judge(sheet, method)).judged.report
+
+
+def needing(needs, records):
+    """The records, in whose reports the courses with these numbers have these needs."""
+    for record in records:
+        courses = outcome(record).judged.report.courses
+        given = {number: courses[number - 1].need for number in needs}
+        assert given == needs, (needs, given)
+    return records
 
 
 def refused(word, *records):
@@ -146,6 +162,12 @@ TALL_MOMENT = 1_105_920
 
 LIGHT = changed(EXAMPLE, W=100, V=137, d=6)     # the wind pull is 6,735; the bolts bear 6,663
 
+# Source document 002's, so far as S-3 tells of it; its plate is the example's, 0.25 in.
+SOURCE_TANK = changed(EXAMPLE, s=21_000, E=70)
+
+# That tank with other W, t and c: sound by API 650; by D100 its first course wants two mils.
+GROWER = changed(SOURCE_TANK, W=18_345, t=188, c=139)
+
 # --- Groups: document 01's example and cases ----------------------------------
 
 
@@ -196,10 +218,11 @@ def readings_astray():
 
 
 def judge_order():
-    """Each subset of the refusals that a sheet can have. Without 30 a sheet without a tank is
-    the empty one, which has no course, no site and no anchors either, nor an H for 37. A sheet
-    without a course has H above Hs, so that 35 comes with 37, unless H is 0 and 30 is there."""
-    words = {number: f"refused {number}" for number in (30, 32, 35, 36, 38, 37)}
+    """Each subset of the refusals that a sheet can have, with 42 and, by both methods, without.
+    Without 30 a sheet without a tank is the empty one, which has no course, no site and no anchors
+    either, nor an H for 37. A sheet without a course has H above Hs, so that 35 comes with 37,
+    unless H is 0 and 30 is there."""
+    words = {number: f"refused {number}" for number in (30, 42, 32, 35, 36, 38, 37)}
     for present in subsets(tuple(words)):
         if 32 in present and (37 in present or 30 not in present
                               and not {35, 36, 38} <= set(present)):
@@ -209,10 +232,11 @@ def judge_order():
         H = 28_801 if 37 in present else 0 if 35 in present else 28_800
         sheet = lacking(present, with_field(EXAMPLE.tank, 2, H), EXAMPLE.site,
                         EXAMPLE.courses[:3])
-        if present:
-            yield refused(first_of(words, present, ""), judge(sheet))
-        else:
-            yield short(sheet, "wind")
+        for method in (7,) if 42 in present else doc.METHODS:
+            if present:
+                yield refused(first_of(words, present, ""), judge(sheet, method))
+            else:
+                yield short(sheet, "wind", method=method)
 
 
 def incomplete():
@@ -356,27 +380,35 @@ def reading_before_judging():
 # --- Groups: each verdict at equality, and one past it on both sides ----------
 
 
-def course_at_equality():
-    """Required is t: by the need with c, whole and rounded up, and by the floor."""
-    yield sound(FULL_HEADS, "| 260 260 260 holds 3ff0000000000000")
+def heads_at_equality(heads, method):
+    """Of four courses whose needs, 260, 195, 130 and 65, are whole by this method, and with c
+    t."""
+    yield sound(heads, "| 260 260 260 holds 3ff0000000000000", method)
     for number in range(1, 5):
         for t in (259, 260, 261):
-            yield sound_if(t >= 260, course_changed(FULL_HEADS, number, t=t), f"course {number}")
-        _width, _t, c, _s, _E = FULL_HEADS.courses[number - 1]
+            yield sound_if(t >= 260, course_changed(heads, number, t=t), f"course {number}",
+                           method=method)
+        _width, _t, c, _s, _E = heads.courses[number - 1]
         for allowance in beside(c):
             if allowance >= 0:
-                sheet = course_changed(FULL_HEADS, number, c=allowance)
-                yield sound_if(allowance <= c, sheet, f"course {number}")
+                sheet = course_changed(heads, number, c=allowance)
+                yield sound_if(allowance <= c, sheet, f"course {number}", method=method)
         for letter, least in (("s", 15_000), ("E", 85)):
             for figure in beside(least):
-                sheet = course_changed(FULL_HEADS, number, **{letter: figure})
-                yield sound_if(figure >= least, sheet, f"course {number}")
+                sheet = course_changed(heads, number, **{letter: figure})
+                yield sound_if(figure >= least, sheet, f"course {number}", method=method)
     every = [f"course {number}" for number in range(1, 5)]
-    higher = course_changed(FULL_HEADS, 4, width=9_600)
-    for H in (30_599, 30_600, 30_601):      # 259.99.. is rounded up
-        yield sound_if(H <= 30_600, changed(higher, H=H, W=30_000), *every)
+    _D, level, *_rest = heads.tank
+    higher = course_changed(heads, 4, width=9_600)
+    for H in beside(level):     # 259.99.. is rounded up
+        yield sound_if(H <= level, changed(higher, H=H, W=30_000), *every, method=method)
     for D in beside(60_000):
-        yield sound_if(D <= 60_000, changed(FULL_HEADS, D=D), *every)
+        yield sound_if(D <= 60_000, changed(heads, D=D), *every, method=method)
+
+
+def course_at_equality():
+    """Required is t: by the need with c, whole and rounded up, and by the floor."""
+    yield from heads_at_equality(FULL_HEADS, D100)
     for c in beside(129):       # the need of 59 with c, beside the floor
         yield sound_if(c <= 129, changed(EXAMPLE, t=188, c=c), "course 1")
 
@@ -456,7 +488,7 @@ def lift_boundaries():
             yield sound_if(Ms <= lift, changed(sheet, Ms=Ms), "earthquake", shows=f"{T} {word}")
     for W in range(18_346, 18_356):
         sheet = changed(SELF, W=W)
-        T = outcome(judge(sheet)).judged.report.standing.T
+        T = report_on(sheet).standing.T
         for boundary in (785, 1_540):
             most = doc.rounded_down(boundary * T, 1_000)
             for Ms in (most, most + 1):
@@ -521,14 +553,18 @@ def several_short():
 # --- Groups: courses and water ------------------------------------------------
 
 
-def floors():
-    """An allowance is no part of the floor."""
+def floor_cases(method):
     low = changed(self_anchored(with_widths(EXAMPLE, [1_200] * 2)), H=1_200, W=10_000, s=40_000)
     for D, floor in ((60_000, 188), (60_001, 250), (144_000, 250), (144_001, 313)):
         for t in (187, 188, 189, 249, 250, 251, 312, 313, 314):
             for c in (0, 120):
                 yield sound_if(t >= floor, changed(low, D=D, t=t, c=c), "course 1",
-                               "course 2", shows=f"| 0 {floor} {t}")
+                               "course 2", shows=f"| 0 {floor} {t}", method=method)
+
+
+def floors():
+    """An allowance is no part of the floor."""
+    return floor_cases(D100)
 
 
 def water_levels():
@@ -573,19 +609,24 @@ def course_counts():
         yield handed_in(changed(self_anchored(sheet), H=12_800))
 
 
-def courses_told_apart():
-    """Twelve courses of other figures each, every one just enough; each in turn one mil short."""
+def twelve_told_apart(method):
     sheet = with_courses(changed(EXAMPLE, D=100_000, H=70_000, W=400_000, N=40, B=100_000),
                          scripts.FULL_COURSES)
-    for number, course in enumerate(outcome(judge(sheet)).judged.report.courses, start=1):
+    for number, course in enumerate(report_on(sheet, method).courses, start=1):
         sheet = course_changed(sheet, number, t=course.required)
-    yield sound(sheet)
-    for number, course in enumerate(outcome(judge(sheet)).judged.report.courses, start=1):
-        yield short(course_changed(sheet, number, t=course.t - 1), f"course {number}")
+    yield sound(sheet, method=method)
+    for number, course in enumerate(report_on(sheet, method).courses, start=1):
+        yield short(course_changed(sheet, number, t=course.t - 1), f"course {number}",
+                    method=method)
     for place in range(11):         # two neighbours change places
         slots = list(sheet.courses)
         slots[place], slots[place + 1] = slots[place + 1], slots[place]
-        yield handed_in(with_courses(sheet, slots))
+        yield handed_in(with_courses(sheet, slots), method)
+
+
+def courses_told_apart():
+    """Twelve courses of other figures each, every one just enough; each in turn one mil short."""
+    return twelve_told_apart(D100)
 
 
 # --- Groups: wind and anchors -------------------------------------------------
@@ -677,7 +718,7 @@ def water_on_rim():
     thin = [changed(SELF, plate=plate, allowance=plate - 1) for plate in (100, 101, 250, 251)]
     thin += [changed(thin[0], H=1_200), changed(thin[0], Fy=30_000), changed(thin[0], Fy=50_000)]
     for sheet in (*nearby, *thin, WHOLE_BY_ROOT, WHOLE_BY_CAP):
-        most = doc.rounded_down(1_540 * outcome(judge(sheet)).judged.report.standing.T, 1_000)
+        most = doc.rounded_down(1_540 * report_on(sheet).standing.T, 1_000)
         yield handed_in(sheet)
         for Ms in (most, most + 1):
             yield handed_in(changed(sheet, Ms=Ms))
@@ -687,6 +728,129 @@ def margins():
     """Sheets that bear out demand 3 by little (see judging.py)."""
     for _name, sheet in (*judging.HALF_IS_LITTLE, *judging.MARGIN_COUNTS):
         yield handed_in(sheet)
+
+
+# --- Groups: the methods of request S-3 ---------------------------------------
+
+
+def source_document_002():
+    """12 ft across, 24 ft of water, 21,000 psi, 0.70, 8 ft steps: by API 650 it "needs 49, 32
+    and 15 mils", by D100 50.94, 33.96 and 16.98 rounded up. The document's own third course is a
+    quarter of an inch lower, its water is not."""
+    by_d100, by_api_650 = {1: 51, 2: 34, 3: 17}, {1: 49, 2: 32, 3: 15}
+    lower = course_changed(SOURCE_TANK, 3, width=9_575)
+    for sheet in (SOURCE_TANK, self_anchored(changed(SOURCE_TANK, W=18_345)),
+                  changed(lower, H=28_775)):
+        yield needing(by_d100, sound(sheet))
+        yield needing(by_api_650, sound(sheet, method=API_650))
+    for method in doc.METHODS:
+        yield refused("refused 37", *handed_in(lower, method))
+    for sheet in (GROWER, self_anchored(GROWER)):
+        yield needing(by_d100, short(sheet, "course 1", shows="| 51 190 188 short"))
+        yield needing(by_api_650, sound(sheet, "| 49 188 188 holds", API_650))
+
+
+FIRST_FOOT = (      # water over the bottom edge; 13 mils for 150 of it by D100, and by API 650
+    (0, 0, 0), (1, 1, 0), (1_199, 104, 0), (1_200, 104, 0), (1_201, 105, 1), (1_202, 105, 1),
+    (1_349, 117, 13), (1_350, 117, 13), (1_351, 118, 14), (2_399, 208, 104), (2_400, 208, 104),
+    (2_401, 209, 105),
+)
+
+
+def first_foot():
+    """The water ends above the bottom edge of the first, a middle or the last course. A foot of
+    1,199 or 1,201, or a foot more, would show in its need. H is never less than a foot."""
+    base = changed(with_widths(SELF, [4_800] * 5), D=240_000, W=1_000_000, s=10_000, E=50, t=2_000)
+    for number, edge in ((1, 0), (3, 9_600), (5, 19_200)):
+        for over, by_d100, by_api_650 in FIRST_FOOT:
+            sheet = changed(base, H=edge + over)
+            if edge + over < 1_200:
+                yield refused("refused 30", *(judge(sheet, method) for method in doc.METHODS))
+                continue
+            yield needing({number: by_d100}, sound(sheet))
+            yield needing({number: by_api_650}, sound(sheet, method=API_650))
+    most = with_widths(changed(base, H=76_800), [12_800] * 6)
+    for method, need in ((D100, 6_656), (API_650, 6_552)):
+        yield needing({1: need}, handed_in(most, method))
+
+
+def course_at_equality_by_api_650():
+    yield from heads_at_equality(FULL_HEADS_A_FOOT_UP, API_650)
+    for number, need in ((1, 49), (2, 32), (3, 15)):    # with c, beside the floor
+        for c in beside(188 - need):
+            sheet = course_changed(changed(SOURCE_TANK, t=188), number, c=c)
+            yield sound_if(need + c <= 188, sheet, f"course {number}", method=API_650)
+    # with a foot of water there is no need: c alone is below the floor, at it and above it
+    for c, t in ((187, 188), (188, 189), (189, 190)):
+        yield sound(changed(SOURCE_TANK, H=1_200, c=c, t=t), f"| 0 {max(c, 188)} {t}", API_650)
+
+
+def sound_by_api_650_alone():
+    """One course, the first, a middle or the last, has t beside what either method requires; the
+    others have enough. Every need with c is above the floor."""
+    both_ways = (changed(EXAMPLE, N=24, B=61_000), SELF)
+    for base, n in product(both_ways, (1, 2, 3, 12)):
+        sheet = changed(with_widths(base, [6_000] * n), D=60_000, H=6_000 * n, W=250_000, t=1_000,
+                        c=150)
+        for number in sorted({1, (n + 1) // 2, n}):
+            least, most = (report_on(sheet, method).courses[number - 1].required
+                           for method in (API_650, D100))
+            assert 188 < least < most - 9
+            for t in (least - 1, least, most - 1, most):
+                one = course_changed(sheet, number, t=t)
+                yield sound_if(t >= most, one, f"course {number}")
+                yield sound_if(t >= least, one, f"course {number}", method=API_650)
+
+
+def floors_by_api_650():
+    return floor_cases(API_650)
+
+
+def courses_told_apart_by_api_650():
+    return twelve_told_apart(API_650)
+
+
+def several_short_by_api_650():
+    """The rules of its way of standing are the same, whatever the courses need."""
+    for base, *rules in ((GROWER,), (self_anchored(GROWER),),
+                         (changed(GROWER, B=22_919), "spacing"),
+                         (changed(GROWER, Ms=900_000), "strength"),
+                         (changed(self_anchored(GROWER), W=18_342), "wind"),
+                         (changed(self_anchored(GROWER), Ms=200_000), "earthquake")):
+        yield short(base, "course 1", *rules)
+        yield reported(base, rules, "", API_650)
+        corroded = course_changed(base, 1, c=140)
+        yield short(corroded, "course 1", *rules, method=API_650)
+
+
+def margins_by_api_650():
+    for _name, sheet in (*judging.HALF_IS_LITTLE, *judging.MARGIN_COUNTS):
+        yield handed_in(sheet, API_650)
+
+
+def method_numbers():
+    """On sheets that are sound by both methods, by API 650 alone and by neither."""
+    for sheet in (EXAMPLE, GROWER, changed(SELF, W=18_342)):
+        yield handed_in(sheet)
+        yield handed_in(sheet, API_650)
+        for number in NO_METHODS:
+            yield refused("refused 42", judge(sheet, number))
+
+
+def no_method_and_more():
+    """42 before what the sheet lacks, 30 before 42."""
+    tank_only = model.held(EXAMPLE.tank, None, None, ())
+    lacking_something = (model.EMPTY, tank_only, tank_only._replace(site=EXAMPLE.site),
+                         EXAMPLE._replace(site=None), unstated(EXAMPLE), changed(EXAMPLE, H=28_801))
+    left_by_no_run = (EXAMPLE._replace(count=4), EXAMPLE._replace(tank=None),
+                      model.EMPTY._replace(count=1), model.EMPTY._replace(site=EXAMPLE.site),
+                      with_slot(EXAMPLE, 11, (0, 0, 0, 0, 1)), changed(EXAMPLE, D=11_999),
+                      changed(unstated(EXAMPLE), allowance=250))
+    for number in (0, 3, 7, 2**8 + 2, U32_MOST):
+        for sheet in lacking_something:
+            yield refused("refused 42", judge(sheet, number))
+        for sheet in left_by_no_run:
+            yield refused("refused 30", judge(sheet, number))
 
 
 # --- Groups: at random, from fixed seeds --------------------------------------
@@ -749,6 +913,16 @@ def random_unstated():
             yield refused("refused 38", judge(unstated(draw(rng))))
 
 
+def random_by_both_methods():
+    """Each sheet by D100 and by API 650; drawn near what D100 requires and near what API 650
+    does, as many of either way of standing."""
+    rng = Random(16)
+    draws = product((near.self_anchored_sheet, near.anchored_sheet), doc.METHODS, range(100))
+    for draw, method, _ in draws:
+        sheet = draw(rng, method)
+        yield tuple(judge(sheet, one) for one in doc.METHODS)
+
+
 def random_damage():
     """The scripts' damaged bytes and sheets; some are still accepted."""
     return openings(scripts.random_damage, scripts.random_noise, scripts.random_forged)
@@ -773,6 +947,9 @@ GROUPS = (
     floors, water_levels, course_counts, courses_told_apart,
     pressures, pulls, bolt_sizes, field_ends, water_on_rim, margins,
     *RANDOM_SHEETS, random_unstated, random_damage,
+    source_document_002, first_foot, course_at_equality_by_api_650, sound_by_api_650_alone,
+    floors_by_api_650, courses_told_apart_by_api_650, several_short_by_api_650,
+    margins_by_api_650, method_numbers, no_method_and_more, random_by_both_methods,
 )
 
 
@@ -807,6 +984,18 @@ def counted(words):
 # --- Self test, over all vectors ----------------------------------------------
 
 
+def check_forms():
+    """JUDGE's figures are FORGE's and the method; of MARK the method is D100."""
+    for sheet in (EXAMPLE, model.EMPTY):
+        for number in (0, 1, 2, U32_MOST):
+            record = judge(sheet, number)
+            assert record == (JUDGE, forge(sheet).payload + number.to_bytes(4, "big"))
+            assert outcome(record).judged[:2] == (sheet, number)
+    assert judge(EXAMPLE) == to_judge(forge(EXAMPLE)) == judge(EXAMPLE, 1)
+    for record, result in zip(all_records(), all_outcomes(), strict=True):
+        assert record.opcode == JUDGE or result.judged.method == D100
+
+
 def check_lines():
     """The example's line and the one stated value, spelled out."""
     plate, spacing, strength = (hexadecimal(doc.use_bits(*sides)) for sides in (
@@ -824,30 +1013,44 @@ def check_demand_3(results):
     """Of every sheet that gets a report."""
     for number, result in enumerate(results, start=1):
         if result.word == "accepted":
-            sheet, word = result.judged.sheet, result.judged.word()
-            assert judging.borne_out(sheet, word), \
-                f"demand 3: record {number} is called {word}; exact fractions do not bear it " \
-                f"out: {sheet}"
+            sheet, method, word = *result.judged[:2], result.judged.word()
+            assert judging.borne_out(sheet, method, word), \
+                f"demand 3: record {number} is called {word} by method {method}; exact fractions " \
+                f"do not bear it out: {sheet}"
 
 
 def check_refusals():
     """All that judging has are there, and those of reading, 16 with every field."""
     words = {result.word for result in all_outcomes()}
-    numbers = (*range(11, 16), 17, 18, 30, 32, 34, *range(35, 39))
+    numbers = (*range(11, 16), 17, 18, 30, 32, 34, *range(35, 39), 42)
     fields = {f"refused 16 {field}" for field in doc.FIELD_RANGES}
     assert words == {"accepted", *(f"refused {number}" for number in numbers), *fields}
 
 
 def check_beside_writing(records, results):
-    """Up to 38 a sheet is refused as in writing, and then by 37 alone. Bytes are never
-    refused 38."""
+    """Up to 38 a sheet is refused as in writing, but for 42 straight after 30, and then by 37
+    alone. Bytes are never refused 38 or 42."""
     for record, result in zip(records, results, strict=True):
         if record.opcode == MARK:
-            assert result.word != "refused 38"
+            assert result.word not in ("refused 38", "refused 42")
         elif record.opcode in JUDGING:
             refusal = model.write_refusal(result.judged.sheet, MOST_BUFFER)
+            if result.judged.method not in doc.METHODS and refusal != (30, 0):
+                refusal = 42, 0
             expected = (None, (37, 0)) if refusal is None else (refusal,)
             assert result.judged.refusal in expected
+
+
+def check_beside_d100(results):
+    """By API 650 a sheet is refused as by D100, or its report differs in no more than the needs
+    and what hangs on them; none of them is greater."""
+    for sheet, method, refusal, report in filter(None, (result.judged for result in results)):
+        if method == API_650:
+            other = judging.judge(sheet, D100)
+            assert refusal == other.refusal
+            assert report._replace(courses=()) == other.report._replace(courses=())
+            for one, more in zip(report.courses, other.report.courses, strict=True):
+                assert one.need <= more.need and one.required <= more.required and one.t == more.t
 
 
 def check_shares():
@@ -863,9 +1066,25 @@ def check_shares():
     assert {result.sheet.count for result in results} == {*range(1, doc.MOST_COURSES + 1)}
 
 
+def check_shares_by_method():
+    """Of the sheets drawn for both: by each method both words, and many on which they differ."""
+    cases = [tuple(map(outcome, case)) for case in random_by_both_methods()]
+    assert len(cases) >= 400
+    words = Counter(tuple(result.judged.word() for result in case) for case in cases)
+    assert {*words} == {("sound", "sound"), ("short", "sound"), ("short", "short")}
+    by_d100, differing = words["sound", "sound"], words["short", "sound"]
+    for sound_ones in (by_d100, by_d100 + differing):
+        assert len(cases) / 4 <= sound_ones <= len(cases) * 3 / 4
+    assert differing >= len(cases) / 10
+    assert {case[0].judged.sheet.count for case in cases} == {*range(1, doc.MOST_COURSES + 1)}
+
+
 def self_test():
+    check_forms()
     check_lines()
     check_demand_3(all_outcomes())
     check_refusals()
     check_beside_writing(all_records(), all_outcomes())
+    check_beside_d100(all_outcomes())
     check_shares()
+    check_shares_by_method()

@@ -1,8 +1,9 @@
 """Judging the sheet of document 01, and demand 3 in fractions.
 
-Written from the document alone: "Order" (with request S-1 of document 02), "The rules" with the
-paragraphs after them, and the mission's third demand. The rules' figures are document.py's;
-`meets` takes none of them.
+Written from the document alone: "Order" (with requests S-1 and S-3 of document 02), "The rules"
+with the paragraphs after them, and the mission's third demand. The rules' figures are
+document.py's; `meets` takes none of them. S-3's method is handed in with the sheet, as any number
+that a u32 holds; bytes are judged by D100.
 """
 
 from fractions import Fraction
@@ -74,12 +75,12 @@ def word(report):
 # --- Judging ------------------------------------------------------------------
 
 
-def refusal_of(sheet):
-    """Order: 30, then 32, 35, 36, 38, 37."""
+def refusal_of(sheet, method):
+    """Order: 30, then 42, 32, 35, 36, 38, 37."""
     if not model.left_by_a_run(sheet):
         return 30, 0
     _D, H, *_rest = sheet.tank or (0,) * len(doc.TANK_FIELDS)
-    return doc.judge_refusal(sheet.tank is not None, sheet.count, sheet.site is not None,
+    return doc.judge_refusal(method, sheet.tank is not None, sheet.count, sheet.site is not None,
                              sheet.anchors is not None, H, model.shell_height(sheet))
 
 
@@ -91,10 +92,10 @@ def bottom_edges(sheet):
         edge += course[0]
 
 
-def course_reports(sheet):
+def course_reports(sheet, method):
     D, H, *_rest = sheet.tank
     for edge, (_width, t, c, s, E) in bottom_edges(sheet):
-        need = doc.hoop_need(doc.course_head(H, edge), D, s, E)
+        need = doc.hoop_need(doc.hoop_head(method, doc.course_head(H, edge)), D, s, E)
         required = doc.required_plate(need, c, D)
         yield CourseReport(need, required, t, doc.course_verdict(required, t))
 
@@ -117,7 +118,7 @@ def anchored(sheet, M):
     return Anchored(*pulls, doc.spacing_verdict(B, N), strength)
 
 
-def report_of(sheet):
+def report_of(sheet, method):
     """Of a sheet that is not refused."""
     D, *_rest = sheet.tank
     V, Kz, I, *_rest = sheet.site
@@ -125,7 +126,7 @@ def report_of(sheet):
     p = doc.wind_pressure(Kz, I, V)
     M = doc.wind_moment(p, D, model.shell_height(sheet))
     standing = self_anchored(sheet, M) if N == 0 else anchored(sheet, M)
-    return Report(p, M, standing, tuple(course_reports(sheet)))
+    return Report(p, M, standing, tuple(course_reports(sheet, method)))
 
 
 class Answer(NamedTuple):
@@ -133,10 +134,10 @@ class Answer(NamedTuple):
     report: Report
 
 
-def judge(sheet):
+def judge(sheet, method):
     """The sheet as it is handed in."""
-    refusal = refusal_of(sheet)
-    return Answer(refusal, report_of(sheet) if refusal is None else NO_REPORT)
+    refusal = refusal_of(sheet, method)
+    return Answer(refusal, report_of(sheet, method) if refusal is None else NO_REPORT)
 
 
 class Marked(NamedTuple):
@@ -145,9 +146,11 @@ class Marked(NamedTuple):
 
 
 def mark(content):
-    """Bytes as they are handed in: read first, whose refusal is the answer, then judge."""
+    """Bytes as they are handed in: read first, whose refusal is the answer, then judge; "file
+    reports use D100"."""
     refusal, sheet = model.read(content)
-    return Marked(sheet, judge(sheet) if refusal is None else Answer(refusal, NO_REPORT))
+    answer = judge(sheet, doc.D100) if refusal is None else Answer(refusal, NO_REPORT)
+    return Marked(sheet, answer)
 
 
 # --- "Demand 3 in fractions" --------------------------------------------------
@@ -174,11 +177,19 @@ def given_margins(sheet):
     )
 
 
-def courses_meet(sheet, margins):
+def exact_need(method, h, D, s, E):
+    """Document 01's fraction or, as S-3 has it, 2.6 D (h - 1 ft) / (s E) in feet and inches."""
+    if method == doc.D100:
+        return Fraction(13 * h * D, 72 * s * E)
+    feet = max(Fraction(h, 1_200) - 1, 0)
+    return Fraction("2.6") * Fraction(D, 1_200) * feet / (s * Fraction(E, 100)) * 1_000
+
+
+def courses_meet(sheet, method, margins):
     D, H, *_rest = sheet.tank
     for edge, (_width, t, c, s, E) in bottom_edges(sheet):
-        h = max(H - edge, 0)
-        if t < doc.house_floor(D) or t < Fraction(13 * h * D, 72 * s * E) + margins.plate + c:
+        need = exact_need(method, max(H - edge, 0), D, s, E)
+        if t < doc.house_floor(D) or t < need + margins.plate + c:
             return False
     return True
 
@@ -214,18 +225,18 @@ def anchored_meets(sheet, margins):
         and all(1_000 * pull <= 19_950 * doc.BOLT_CHART[d] for pull in pulls)
 
 
-def meets(sheet, margins):
+def meets(sheet, method, margins):
     """All the rules, over the fields only, with nothing rounded."""
     N, *_rest = sheet.anchors
     standing_meets = self_anchored_meets if N == 0 else anchored_meets
-    return courses_meet(sheet, margins) and standing_meets(sheet, margins)
+    return courses_meet(sheet, method, margins) and standing_meets(sheet, margins)
 
 
-def borne_out(sheet, word_on_it):
-    """The claim about the sheet judged and the word on it."""
+def borne_out(sheet, method, word_on_it):
+    """The claim about the sheet judged, by this method, and the word on it."""
     if word_on_it == "sound":
-        return meets(sheet, NO_MARGINS)
-    return not meets(sheet, given_margins(sheet))
+        return meets(sheet, method, NO_MARGINS)
+    return not meets(sheet, method, given_margins(sheet))
 
 
 # --- Self test ----------------------------------------------------------------
@@ -242,6 +253,11 @@ LOW_WATER_COURSE = (9_600, 250, 0, 40_000, 100)
 FULL_HEADS = model.held((60_000, 30_600, 25_000, *EXAMPLE_BOTTOM), (105, 109, 115, 27, 30_000),
                         model.SELF_ANCHORED,
                         [(7_650, 260, 65 * place, 15_000, 85) for place in range(4)])
+
+# The same by API 650: a foot of water more, and a shell that is higher by it.
+FULL_HEADS_A_FOOT_UP = model.held((60_000, 31_800, *FULL_HEADS.tank[2:]), FULL_HEADS.site,
+                                  FULL_HEADS.anchors,
+                                  [*FULL_HEADS.courses[:3], (8_850, *FULL_HEADS.courses[3][1:])])
 
 # A margin, and a sheet called short that meets every rule with half of it and the others whole.
 HALF_IS_LITTLE = (
@@ -275,28 +291,61 @@ MARGIN_COUNTS = (
 )
 
 
-def word_on(sheet):
-    refusal, report = judge(sheet)
-    assert refusal is None
+def word_on(sheet, method):
+    """It is borne out."""
+    refusal, report = judge(sheet, method)
+    assert refusal is None and borne_out(sheet, method, word(report))
     return word(report)
 
 
+def check_margin_counts(name, sheet, method):
+    alone = NO_MARGINS._replace(**{name: getattr(given_margins(sheet), name)})
+    assert word_on(sheet, method) == "sound"
+    assert not meets(sheet, method, alone), f"the margin of {name} counts for nothing"
+
+
 def check_margins():
-    """The claim has teeth: it fails with half a margin, and each margin is part of `meets`."""
+    """The claim has teeth: it fails with half a margin, by either method, and each margin is
+    part of `meets`."""
     for name, sheet in HALF_IS_LITTLE:
         margins = given_margins(sheet)
         halved = margins._replace(**{name: getattr(margins, name) / 2})
-        assert word_on(sheet) == "short" and borne_out(sheet, "short")
-        assert meets(sheet, halved), f"half the margin of {name} is enough"
+        for method in doc.METHODS:
+            assert word_on(sheet, method) == "short"
+            assert meets(sheet, method, halved), f"half the margin of {name} is enough"
     for name, sheet in MARGIN_COUNTS:
-        alone = NO_MARGINS._replace(**{name: getattr(given_margins(sheet), name)})
-        assert word_on(sheet) == "sound" and borne_out(sheet, "sound")
-        assert not meets(sheet, alone), f"the margin of {name} counts for nothing"
+        check_margin_counts(name, sheet, doc.D100)
+    check_margin_counts("plate", FULL_HEADS_A_FOOT_UP, doc.API_650)
+
+
+def with_plates(sheet, t):
+    """The sheet with this t in every course held."""
+    return model.held(*sheet[:3], [(width, t, *rest)
+                                   for width, _t, *rest in sheet.courses[:sheet.count]])
+
+
+def check_methods():
+    """The claim would catch the other method's need, whichever way the two are exchanged. Of
+    FULL_HEADS every course requires 260 by D100, 250 by API 650."""
+    for t, by_d100, by_api_650 in ((249, "short", "short"), (250, "short", "sound"),
+                                   (255, "short", "sound"), (259, "short", "sound"),
+                                   (260, "sound", "sound")):
+        sheet = with_plates(FULL_HEADS, t)
+        assert (word_on(sheet, doc.D100), word_on(sheet, doc.API_650)) == (by_d100, by_api_650)
+        assert borne_out(sheet, doc.D100, by_api_650) == (by_d100 == by_api_650)
+    assert not borne_out(with_plates(FULL_HEADS, 255), doc.API_650, "short")
+    assert exact_need(doc.D100, 30_600, 60_000, 15_000, 85) == 260
+    assert exact_need(doc.API_650, 31_800, 60_000, 15_000, 85) == 260
+    assert [exact_need(doc.API_650, h, 60_000, 15_000, 85) for h in (0, 1_199, 1_200, 1_201)] \
+        == [0, 0, 0, Fraction(13, 1_530)]
 
 
 def check_exact():
-    """The margins, none and given, and M with either are Fractions: with the least pressure
-    (V 96) and with one above it."""
+    """The needs, the margins, none and given, and M with either are Fractions: with the least
+    pressure (V 96) and with one above it."""
+    for method in doc.METHODS:
+        for h in (0, 1_200, 28_800):
+            assert type(exact_need(method, h, 14_400, 15_000, 85)) is Fraction
     for V in (96, 97):
         sheet = model.EXAMPLE._replace(site=(V, *model.EXAMPLE.site[1:]))
         for margins in (NO_MARGINS, given_margins(sheet)):
@@ -305,7 +354,7 @@ def check_exact():
 
 
 def self_test():
-    refusal, report = judge(model.EXAMPLE)
+    refusal, report = judge(model.EXAMPLE, doc.D100)
     assert refusal is None and word(report) == "sound"
     assert (report.p, report.M) == (2_123, 73_371)
     assert report.standing[:2] == (2_133, -211)
@@ -313,13 +362,19 @@ def self_test():
         == [(59, 188, 250), (40, 188, 250), (20, 188, 250)]
 
     # "self wind short resist 94646 none"
-    refusal, report = judge(model.EXAMPLE._replace(anchors=model.SELF_ANCHORED))
+    refusal, report = judge(model.EXAMPLE._replace(anchors=model.SELF_ANCHORED), doc.D100)
     assert refusal is None and short_rules(report) == ["wind"]
     assert report.standing[1:3] == (94_646, "none")
-    assert judge(model.EXAMPLE._replace(anchors=None)) == ((38, 0), NO_REPORT)
+    assert judge(model.EXAMPLE._replace(anchors=None), doc.D100) == ((38, 0), NO_REPORT)
+
+    # 42 "after 30 and before 32"
+    assert judge(model.EXAMPLE, 3) == judge(model.EMPTY, 3) == ((42, 0), NO_REPORT)
+    assert judge(model.EMPTY, doc.API_650) == ((32, 0), NO_REPORT)
+    assert judge(model.EXAMPLE._replace(count=4), 3) == ((30, 0), NO_REPORT)
 
     # the mission's margins, on a tank of 12 ft by 24 ft
     assert given_margins(model.EXAMPLE) \
         == (1, Fraction(12 * 24 * 24, 200) + 1, Fraction(12 * 12, 50) + 1, 1)
     check_exact()
     check_margins()
+    check_methods()

@@ -2,9 +2,9 @@
 
 Each leaf has the domain of its arguments, its answer (from document.py; leaf 40's
 from ground.py), the documents' own figures for it (document 01's; request S-2's for
-leaf 40), and its edges: points at equality or at a whole quotient with those one to
-either side. The two ends of each range, combined, and random points with a fixed
-seed come from the domain.
+leaf 40, S-3's for leaf 50), and its edges: points at equality or at a whole quotient
+with those one to either side. The two ends of each range, combined, and random points
+with a fixed seed come from the domain.
 """
 
 from fractions import Fraction
@@ -18,10 +18,10 @@ import ground
 
 MOST_STDIN_BYTES = 524_288    # the buffer of the program under test
 ARGUMENTS = 4          # on a line; the unused ones are 0
-RANDOM_POINTS = 220    # new ones for each leaf
+RANDOM_POINTS = 220    # new ones for each leaf that does not say another number
 USUAL_POINTS = 60      # more of them, where only a part of the domain is of interest
 EDGE_DRAWS = 30        # for each kind of edge
-WHOLE_DOMAIN = 400     # a domain up to this size is taken whole
+WHOLE_DOMAIN = 420     # a domain up to this size is taken whole; leaf 12's has just this many
 
 # --- Ranges -------------------------------------------------------------------
 
@@ -56,6 +56,12 @@ PULL = (0, 800_000_000_000)                 # moment greatest, B 1, N 6
 A = (1, 2_500)
 MAPPED = (0, ground.MOST_MAPPED)            # Ss or S1, where it is not refused
 CLASSES = tuple(map(ord, ground.CLASSES))
+
+# Numbers that are no method's: beside the two; such as a narrower or a signed type would take for
+# one of them or its negative; the digits' ASCII codes; 100 and 650.
+NO_METHODS = (0, 3, 4, 7, ord("1"), ord("2"), 100, 650, 255, *range(2**8, 2**8 + 3),
+              2**16 - 1, *range(2**16, 2**16 + 3), 2**24 + 1, 2**24 + 2, *range(2**31, 2**31 + 3),
+              2**32 - 2, 2**32 - 1)
 
 # --- Writing ------------------------------------------------------------------
 
@@ -93,6 +99,11 @@ def standard_site_text(speed):
     if speed not in chart:
         return refusal_text(doc.FIELD_REFUSAL, doc.WIND_FIELD)
     return decimal(chart[speed])
+
+
+def hoop_head_text(method, h):
+    refusal = doc.method_refusal(method)
+    return decimal(doc.hoop_head(method, h)) if refusal is None else refusal_text(*refusal)
 
 
 def ground_text(site_class, Ss, S1):
@@ -606,6 +617,28 @@ def ground_edges(rng):
     yield from slope_edges(rng)
 
 
+# --- Edges of the method leaf -------------------------------------------------
+
+
+def head_boundaries():
+    """Where h is a foot or none, and where it or a foot more or less of it wraps a number."""
+    for boundary in (0, doc.FOOT, 2 * doc.FOOT, HEIGHT[1], 2**8, 2**16, 2**31, 2**31 + doc.FOOT,
+                     2**32 - doc.FOOT, U32[1]):
+        yield from beside(boundary)
+    yield doc.FOOT - 2
+    yield doc.FOOT + 2
+
+
+def method_edges(rng):
+    drawn = [even_draw(rng, HEIGHT) for _ in range(EDGE_DRAWS)]
+    for h in (*head_boundaries(), *drawn):
+        for method in doc.METHODS:
+            yield method, h
+    for method in NO_METHODS:
+        for h in (0, 28_800):
+            yield method, h
+
+
 # --- The leaves ---------------------------------------------------------------
 
 
@@ -615,6 +648,7 @@ class Leaf(NamedTuple):
     figures: tuple                              # the documents' own
     edges: Callable                             # of the random numbers: points
     usual: tuple = ()                           # a part of the domain, for more random points
+    random: int = RANDOM_POINTS                 # how many points from the whole of it
     allowed: Callable = lambda point: True      # where the ranges alone do not say it
 
 
@@ -828,6 +862,15 @@ LEAVES = {
         ground_edges,
         usual=((CLASSES[0], CLASSES[-1]), MAPPED, MAPPED),
     ),
+    50: Leaf(
+        (U32, U32),
+        hoop_head_text,
+        ((doc.API_650, 28_800), (doc.API_650, 19_200), (doc.API_650, 9_600),
+         (doc.D100, 28_800), (doc.D100, 19_200), (doc.D100, 9_600)),
+        method_edges,
+        usual=((doc.D100, doc.API_650), U32),
+        random=20,      # nearly all of them refused
+    ),
 }
 
 # --- Points and lines ---------------------------------------------------------
@@ -862,7 +905,7 @@ def leaf_points(number):
         whole = product(*(range(least, greatest + 1) for least, greatest in leaf.domain))
         points.update(dict.fromkeys(whole))
     else:
-        add_random_points(points, leaf, rng, leaf.domain, RANDOM_POINTS)
+        add_random_points(points, leaf, rng, leaf.domain, leaf.random)
         if leaf.usual:
             add_random_points(points, leaf, rng, leaf.usual, USUAL_POINTS)
     assert all(inside(leaf, point) for point in points)
@@ -888,11 +931,29 @@ def as_bytes(lines):
     return "".join(line + "\n" for line in lines).encode("ascii")
 
 
-# --- Self test: leaf 12 -------------------------------------------------------
+# --- Self test: leaves 12 and 50 ----------------------------------------------
 
 
-def self_test():
+def check_refusals():
     """Every refusal of the list with every field: the domain is small enough to be taken whole."""
     places, fields = (range(least, greatest + 1) for least, greatest in LEAVES[12].domain)
     assert len(places) == len(doc.REFUSALS) and len(fields) == 1 + len(doc.FIELD_RANGES)
     assert sorted(leaf_points(12)) == list(product(places, fields))
+    assert answer("12 20 7 0 0") == "refused 42 0"
+
+
+def check_methods():
+    """The answers spelled out; both methods are asked as often."""
+    for line, text in (("50 1 1200 0 0", "1200"), ("50 2 1199 0 0", "0"), ("50 2 1200 0 0", "0"),
+                       ("50 2 1201 0 0", "1"), ("50 2 28800 0 0", "27600"),
+                       ("50 2 4294967295 0 0", "4294966095"), ("50 0 28800 0 0", "refused 42 0"),
+                       ("50 3 0 0 0", "refused 42 0"), ("50 258 28800 0 0", "refused 42 0")):
+        assert answer(line) == text, (line, text)
+    asked = [method for method, _h in leaf_points(50)]
+    assert min(asked.count(method) for method in doc.METHODS) >= 70
+    assert not {*NO_METHODS} & {*doc.METHODS} and {*NO_METHODS} <= {*asked}
+
+
+def self_test():
+    check_refusals()
+    check_methods()

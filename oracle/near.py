@@ -1,7 +1,8 @@
 """Random sheets for judging, drawn so that most checks are at equality or close to it.
 
 Each rule is met by nothing or by little; those asked to be broken are missed by little, as far
-as the ranges let them be. Document 01's letters; every draw comes from the rng handed in.
+as the ranges let them be. The courses' rule is that of the method handed in. Document 01's
+letters; every draw comes from the rng handed in.
 """
 
 import document as doc
@@ -10,6 +11,7 @@ import sheet as model
 MOST_NEED = 1_750       # leaves room for an allowance in the greatest plate
 SELF_RULES = ("course", "wind", "earthquake")
 ANCHORED_RULES = ("course", "spacing", "wind pull", "earthquake pull")
+NEED_STARTS = {doc.D100: 0, doc.API_650: doc.FOOT}      # with the water this far above the edge
 
 
 def within(field, figure):
@@ -49,11 +51,12 @@ def widths(rng):
     return [rng.randint(1_200, widest) for _ in range(n)]
 
 
-def water_level(rng, course_widths):
-    """At the top, at and beside a course's edge, or anything up to the top."""
+def water_level(rng, course_widths, method):
+    """At the top, at and beside where a course's need starts, or anything up to the top."""
     Hs = sum(course_widths)
     edge = sum(course_widths[:rng.randint(1, len(course_widths))])
-    levels = (Hs, edge + rng.choice((-1, 0, 1)), rng.randint(1_200, Hs), rng.randint(1_200, Hs))
+    levels = (Hs, edge + NEED_STARTS[method] + rng.choice((-1, 0, 1)), rng.randint(1_200, Hs),
+              rng.randint(1_200, Hs))
     return min(max(rng.choice(levels), 1_200), Hs)
 
 
@@ -73,7 +76,7 @@ def wind_figures(rng):
 
 
 def stress_and_efficiency(rng, h, D):
-    """Such that a plate in range can do."""
+    """Such that a plate in range can do; h as the method has it."""
     while True:
         s, E = even(rng, 18), even(rng, 19)
         if doc.hoop_need(h, D, s, E) <= MOST_NEED:
@@ -88,12 +91,13 @@ def course(rng, D, h, width, broken):
     return width, within(16, max(t, c + 1)), c, s, E
 
 
-def courses(rng, D, H, course_widths, broken):
+def courses(rng, D, H, course_widths, method, broken):
     """At most one of them broken."""
     wrong = rng.randrange(len(course_widths)) if broken else None
     edge = 0
     for place, width in enumerate(course_widths):
-        yield course(rng, D, doc.course_head(H, edge), width, place == wrong)
+        h = doc.hoop_head(method, doc.course_head(H, edge))
+        yield course(rng, D, h, width, place == wrong)
         edge += width
 
 
@@ -134,10 +138,10 @@ def pull_aimed_at(rng, most, broken):
                        rng.randint(-most, most)))
 
 
-def self_anchored_sheet(rng):
+def self_anchored_sheet(rng, method=doc.D100):
     broken = broken_rules(rng, SELF_RULES)
     D, course_widths = diameter(rng), widths(rng)
-    H, (plate, allowance, Fy) = water_level(rng, course_widths), bottom(rng)
+    H, (plate, allowance, Fy) = water_level(rng, course_widths, method), bottom(rng)
     V, Kz, I = wind_figures(rng)
     Av = rng.choice((0, even(rng, 10)))
     M = doc.wind_moment(doc.wind_pressure(Kz, I, V), D, sum(course_widths))
@@ -145,15 +149,15 @@ def self_anchored_sheet(rng):
     wL = doc.water_on_rim(plate - allowance, Fy, H, D)
     T = doc.resistance(D, doc.shell_weight_on_rim(W, Av, D), wL)
     Ms = earthquake_moment(rng, T, "earthquake" in broken)
-    shell = list(courses(rng, D, H, course_widths, "course" in broken))
+    shell = list(courses(rng, D, H, course_widths, method, "course" in broken))
     return model.held((D, H, W, plate, allowance, Fy), (V, Kz, I, Av, Ms), model.SELF_ANCHORED,
                       shell)
 
 
-def anchored_sheet(rng):
+def anchored_sheet(rng, method=doc.D100):
     broken = broken_rules(rng, ANCHORED_RULES)
     D, course_widths = diameter(rng), widths(rng)
-    H, (plate, allowance, Fy) = water_level(rng, course_widths), bottom(rng)
+    H, (plate, allowance, Fy) = water_level(rng, course_widths, method), bottom(rng)
     V, Kz, I = wind_figures(rng)
     M = doc.wind_moment(doc.wind_pressure(Kz, I, V), D, sum(course_widths))
     B, N = circle_and_anchors(rng, D, "spacing" in broken)
@@ -162,6 +166,6 @@ def anchored_sheet(rng):
     aims = [pull_aimed_at(rng, most, f"{name} pull" in broken) for name in ("wind", "earthquake")]
     W = within(3, doc.rounded_up(4_800 * M - N * B * aims[0], B) - ("wind pull" in broken))
     Ms = within(11, doc.rounded_down((N * aims[1] + W) * B, 4_800) + ("earthquake pull" in broken))
-    shell = list(courses(rng, D, H, course_widths, "course" in broken))
+    shell = list(courses(rng, D, H, course_widths, method, "course" in broken))
     return model.held((D, H, W, plate, allowance, Fy), (V, Kz, I, even(rng, 10), Ms), (N, B, d),
                       shell)

@@ -5,7 +5,8 @@ the payload, and the payload; its figures have four bytes each. All numbers are 
 Each record has one line: the answer's word, and then the sheet after it, the lent buffer or
 the report, which beside a refusal is one stated value. MARK and JUDGE judge what READ and
 FORGE would make the current sheet, JUDGE_HELD judges the current one; all three leave that
-as it is.
+as it is. The method is the last figure of JUDGE, after those of FORGE, and the only one of
+JUDGE_HELD; MARK judges by D100.
 """
 
 import struct
@@ -93,21 +94,23 @@ def forged(figures):
                        slots, figures[17])
 
 
-def to_judge(record):
-    """The record that hands the same bytes, or the same sheet, in for judging."""
-    return record._replace(opcode={READ: MARK, FORGE: JUDGE}[record.opcode])
-
-
 def mark(content):
-    return to_judge(read(content))
+    return read(content)._replace(opcode=MARK)
 
 
-def judge(sheet):
-    return to_judge(forge(sheet))
+def judge(sheet, method=doc.D100):
+    return figures_record(JUDGE, (*model.bytes_as_figures(forge(sheet).payload), method))
 
 
-def judge_held():
-    return Record(JUDGE_HELD, b"")
+def judge_held(method=doc.D100):
+    return figures_record(JUDGE_HELD, (method,))
+
+
+def to_judge(record):
+    """The record that hands the same bytes, or the same sheet, in for judging by D100."""
+    opcode, payload = record
+    assert opcode in (READ, FORGE)
+    return mark(payload) if opcode == READ else judge(forged(model.bytes_as_figures(payload)))
 
 
 def as_bytes(record):
@@ -191,6 +194,7 @@ NO_REPORT_TEXT = report_text(judging.NO_REPORT)
 
 class Judged(NamedTuple):
     sheet: model.Sheet          # the one judged; where reading refuses, the empty one
+    method: int
     refusal: tuple | None
     report: judging.Report
 
@@ -225,10 +229,12 @@ def judged_by(sheet, record):
     """The sheet is the current one; to MARK and JUDGE it makes no difference."""
     if record.opcode == MARK:
         read_sheet, answer = judging.mark(record.payload)
-        return Judged(read_sheet, *answer)
+        return Judged(read_sheet, doc.D100, *answer)
+    figures = model.bytes_as_figures(record.payload)
+    method = figures[-1]
     if record.opcode == JUDGE:
-        sheet = forged(model.bytes_as_figures(record.payload))
-    return Judged(sheet, *judging.judge(sheet))
+        sheet = forged(figures[:-1])
+    return Judged(sheet, method, *judging.judge(sheet, method))
 
 
 def judged_outcome(sheet, judged):

@@ -360,7 +360,8 @@ def told_apart(n):
                for k in range(n)]
     sheet = with_courses(changed(EXAMPLE, D=240_000, W=7_000_000, N=70, B=250_000), courses)
     sheet = changed(sheet, H=model.shell_height(sheet))
-    numbers = [number for course in judging.report_of(sheet).courses for number in course[:3]]
+    courses = judging.report_of(sheet, doc.D100).courses
+    numbers = [number for course in courses for number in course[:3]]
     assert len({*numbers}) == 3 * n, numbers
     return sheet
 
@@ -849,7 +850,8 @@ def check_demand_3():
     for content, _was in all_cases():
         word = word_on(text_of(content))
         if word != "refused":
-            assert judging.borne_out(marked(content).sheet, word), marked(content).sheet
+            sheet = marked(content).sheet
+            assert judging.borne_out(sheet, doc.D100, word), sheet
 
 
 def self_test():

@@ -1,7 +1,8 @@
 """The text of an answer, as document 01's "The example tank" prints it.
 
 A report has a line for each course, one for the wind, those of its way of standing and the word
-on the tank; a refusal has one line. Every line ends in a newline, the last one too.
+on the tank; a refusal has one line. Every line ends in a newline, the last one too. "The printing
+program and file reports use D100" (request S-3 of document 02).
 """
 
 import document as doc
@@ -59,7 +60,7 @@ def answer_text(answer):
 
 
 def judged_text(sheet):
-    return answer_text(judging.judge(sheet))
+    return answer_text(judging.judge(sheet, doc.D100))
 
 
 def marked_text(content):

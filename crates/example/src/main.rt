@@ -1,4 +1,4 @@
-// Document 01's example tank, filled in step by step, judged and printed.
+// Document 01's example tank, filled in step by step, judged by D100 and printed.
 use entries::Anchors;
 use entries::Course;
 use entries::Sheet;
@@ -10,8 +10,11 @@ use sheet::steps;
 use text::printing;
 use text::printing::MOST_TEXT;
 
+// The method for hoop need: 1 for D100, 2 for API 650.
+const METHOD: u32 = 1;
+
 fn main() {
-    let judgement = judging::judge(example());
+    let judgement = judging::judge(METHOD, example());
     let mut out = [0u8; MOST_TEXT];
     let printed = printing::print(judgement, &mut out);
     io::write_all(STDOUT_FILENO, printed.text(&out));

@@ -3,7 +3,7 @@
 use Prim.Native.Nat.{ℕ}
 use Rattle.fields.specs.declared.refusal.Code.{Code}
 use Rattle.fields.specs.declared.refusal.Refusal.{Refusal}
-use Rattle.fields.specs.declared.refusal.Refusal.the-variants.{TooFewBytes, TooManyBytes, BadLength, BadVersion, BadCount, OutOfRange, AllowanceNotBelowPlate, BadAnchors, BufferTooShort, Unreachable, TankStated, NoTank, CoursesFull, ShellTooHigh, NoCourse, NoSite, WaterAboveShell, AnchorsUnstated, FigureOutOfRange, BadSiteClass}
+use Rattle.fields.specs.declared.refusal.Refusal.the-variants.{TooFewBytes, TooManyBytes, BadLength, BadVersion, BadCount, OutOfRange, AllowanceNotBelowPlate, BadAnchors, BufferTooShort, Unreachable, TankStated, NoTank, CoursesFull, ShellTooHigh, NoCourse, NoSite, WaterAboveShell, AnchorsUnstated, FigureOutOfRange, BadSiteClass, BadMethod}
 
 -- the number alone
 abbrev pub plain : ℕ → Code
@@ -30,3 +30,4 @@ codeOf WaterAboveShell = plain 37
 codeOf AnchorsUnstated = plain 38
 codeOf FigureOutOfRange = plain 40
 codeOf BadSiteClass = plain 41
+codeOf BadMethod = plain 42

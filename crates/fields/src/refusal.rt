@@ -1,5 +1,5 @@
 // The refusals (document 01, "Refusals that come from the input" and "from the state"; document 02: 38 of S-1,
-// 40 and 41 of S-2).
+// 40 and 41 of S-2, 42 of S-3).
 ghost use mathlib.Core.Path.{_≡_};
 ghost use Rattle.fields.specs.Refusal.{codeOf, plain};
 
@@ -26,6 +26,7 @@ pub enum Refusal {
     // A figure is outside its range, where the documents give no field with it.
     FigureOutOfRange,
     BadSiteClass,
+    BadMethod,
 }
 
 // A refusal as the documents have it: its number, and the field that it gives, or 0 where it gives none.
@@ -66,6 +67,7 @@ impl Refusal {
             Refusal::AnchorsUnstated => plain(38),
             Refusal::FigureOutOfRange => plain(40),
             Refusal::BadSiteClass => plain(41),
+            Refusal::BadMethod => plain(42),
         }
     }
 }

@@ -13,15 +13,17 @@ use entries::Course;
 use entries::Tank;
 use reports::report::CourseLine;
 use rules::hoop;
+use rules::method::Method;
 
 // The line of a course whose bottom edge is at this height.
-fn line(tank: Tank, edge: u32, c: Course) -> CourseLine
+fn line(method: Method, tank: Tank, edge: u32, c: Course) -> CourseLine
     requires { ⌜ T (clear (tankFlaws tank)) ⌝ }
     requires { ⌜ T (clear (courseFlaws c)) ⌝ }
-    ensures { λ r. ⌜ r ≡ lineOf tank edge c ⌝ }
+    ensures { λ r. ⌜ r ≡ lineOf method tank edge c ⌝ }
 {
     let h = hoop::head(tank.level, edge);
-    let need = hoop::need(h, tank.diameter, c.stress, c.efficiency);
+    let design = hoop::design_head(method, h);
+    let need = hoop::need(design, tank.diameter, c.stress, c.efficiency);
     let required = hoop::required(need, c.allowance, tank.diameter);
     let verdict = hoop::check(required, c.plate);
     CourseLine {
@@ -33,12 +35,12 @@ fn line(tank: Tank, edge: u32, c: Course) -> CourseLine
 }
 
 // The lines of the first n courses, and blank ones up to twelve.
-pub(crate) fn lines(tank: Tank, courses: [Course; 12], n: usize) -> [CourseLine; 12]
+pub(crate) fn lines(method: Method, tank: Tank, courses: [Course; 12], n: usize) -> [CourseLine; 12]
     requires { ⌜ n ≤ 12 ⌝ }
     requires { ⌜ T (clear (tankFlaws tank)) ⌝ }
     requires { ⌜ T (coursesClear (take n courses)) ⌝ }
     requires { ⌜ heightOf (take n courses) ≤ mostHeight ⌝ }
-    ensures { λ r. ⌜ r ≡ padded blankLine (linesOf tank 0 (take n courses)) ⌝ }
+    ensures { λ r. ⌜ r ≡ padded blankLine (linesOf method tank 0 (take n courses)) ⌝ }
 {
     let blank = CourseLine::blank();
     let mut all = [blank; 12];
@@ -46,7 +48,7 @@ pub(crate) fn lines(tank: Tank, courses: [Course; 12], n: usize) -> [CourseLine;
     let mut i: usize = 0;
     while i < n {
         let c = courses[i];
-        all[i] = line(tank, edge, c);
+        all[i] = line(method, tank, edge, c);
         edge += c.width;
         i += 1;
     }

@@ -18,6 +18,7 @@ use Rattle.lists.specs.Ascii.{ascii}
 use Rattle.fields.specs.Order.{answerCode}
 use Rattle.fields.specs.declared.answer.Answer.{Answer}
 use Rattle.fields.specs.declared.answer.Answer.the-variants.{Accepted, Refused}
+use Rattle.rules.specs.declared.method.Method.{Method}
 use Rattle.sheet.specs.declared.complete.Entries.{Entries}
 use Rattle.reports.specs.Meets.{Justified}
 use Rattle.reports.specs.Report.{tankWord}
@@ -126,9 +127,9 @@ called : (a : Answer) (r : Report) → answerCode a ≡ plain 0
 called Accepted r e = one-of (text (reportLines r)) (r .word) (report-end r)
 called (Refused x) r e = absurd (subst T (never-zero x) (subst (λ (p : Code). T (eqb (p .number) 0)) (sym e) tt))
 
-pub text-justified : (e : Entries) (j : Judgement) → Justified e j → TextJustified e j
+pub text-justified : (method : Method) (e : Entries) (j : Judgement) → Justified method e j → TextJustified method e j
 unfolding textOf
-text-justified e j k = record {
+text-justified method e j k = record {
   called = called (j .answer) (j .report);
   sound = λ e. let t = by-line (j .answer) (j .report) Sound e in k .sound (t .0) (t .1);
   short = λ e. let t = by-line (j .answer) (j .report) Short e in k .short (t .0) (t .1);

@@ -1,4 +1,4 @@
--- The cases that document 01 marks ◆, and one of S-1 of document 02, computed by the checker.
+-- The cases that document 01 marks ◆, and those of S-1 and S-3 of document 02, computed by the checker.
 -- Assumes nothing.
 use mathlib.Core.Path.{_≡_, refl}
 use mathlib.Core.List.{map}
@@ -9,7 +9,8 @@ use Rattle.fields.specs.Range.{within, between}
 use Rattle.fields.specs.Refusal.{plain}
 use Rattle.stability.specs.Anchors.{pullExact, pullOf, spacingVerdict}
 use Rattle.stability.specs.Earthquake.{shellExact, shellWeight, rootMost, bottomRoot, capExact, bottomCap, bottomWeight, resistanceOf, upliftOf}
-use Rattle.rules.specs.Hoop.{headOf, hoopExact, hoopNeed}
+use Rattle.rules.specs.Hoop.{headOf, designHead, hoopExact, hoopNeed, plateFloor, requiredPlate, courseVerdict}
+use Rattle.rules.specs.Method.{isMethod, methodOf}
 use Rattle.rules.specs.Verdict.{verdictOf}
 use Rattle.rules.specs.Wind.{pressureOf}
 use Rattle.fields.specs.Order.{answerCode, clear}
@@ -22,10 +23,10 @@ use Rattle.reports.specs.Judging.{judged}
 use Rattle.reports.specs.Cases.{exampleUnstated, provedCases, outcome, expected}
 
 pub proved-cases : map outcome provedCases ≡ map expected provedCases
-unfolding upℤ rootOf inChart within between pullExact pullOf spacingVerdict shellExact shellWeight rootMost bottomRoot capExact bottomCap bottomWeight resistanceOf upliftOf headOf hoopExact hoopNeed verdictOf pressureOf clear badAnchors tankFlaws siteFlaws anchorFlaws courseFlaws coursesClear coursesBlank slotsReachable reachable lineOf resistanceOn selfChecks anchorChecks standingOf reportOf judged
+unfolding upℤ rootOf inChart within between pullExact pullOf spacingVerdict shellExact shellWeight rootMost bottomRoot capExact bottomCap bottomWeight resistanceOf upliftOf headOf designHead hoopExact hoopNeed plateFloor requiredPlate courseVerdict isMethod methodOf verdictOf pressureOf clear badAnchors tankFlaws siteFlaws anchorFlaws courseFlaws coursesClear coursesBlank slotsReachable reachable lineOf resistanceOn selfChecks anchorChecks standingOf reportOf judged
 proved-cases = refl
 
 -- anchors left out are asked about
-pub unstated-asked : answerCode (judged exampleUnstated .answer) ≡ plain 38
-unfolding within between clear tankFlaws siteFlaws courseFlaws coursesClear coursesBlank slotsReachable reachable judged
+pub unstated-asked : answerCode (judged 1 exampleUnstated .answer) ≡ plain 38
+unfolding isMethod within between clear tankFlaws siteFlaws courseFlaws coursesClear coursesBlank slotsReachable reachable judged
 unstated-asked = refl

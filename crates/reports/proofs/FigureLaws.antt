@@ -14,8 +14,9 @@ use Rattle.stability.specs.Bounds.{mostBottom, mostPlate, mostPull, mostResista
 use Rattle.stability.specs.Earthquake.{shellWeight, rootMost, bottomWeight, resistanceMargin}
 use Rattle.rules.specs.Hoop.{plateMargin, requiredPlate}
 use Rattle.rules.specs.Wind.{momentMargin}
+use Rattle.rules.specs.declared.method.Method.{Method}
 use Rattle.stability.proofs.AnchorLaws.{strength-safe, strength-near}
-use Rattle.rules.proofs.Bounds.{need-most, head-most, required-most, pressure-most, moment-most}
+use Rattle.rules.proofs.Bounds.{need-most, head-most, design-head-most, required-most, pressure-most, moment-most}
 use Rattle.stability.proofs.Bounds.{shell-most, bottom-most, resistance-most, resistance-above, pull-most}
 use Rattle.stability.proofs.EarthquakeLaws.{root-fits, resistance-safe, resistance-near}
 use Rattle.rules.proofs.HoopLaws.{hoop-rounded}
@@ -27,11 +28,11 @@ use Rattle.entries.specs.declared.sheet.Site.{Site}
 use Rattle.entries.specs.declared.sheet.Anchors.{Anchors}
 use Rattle.entries.specs.declared.sheet.Course.{Course}
 use Rattle.entries.proofs.FieldLaws.{TankIn, SiteIn, AnchorsIn, tank-in, site-in, course-in, anchors-in}
-use Rattle.reports.specs.Figures.{needOn, needExactOn, pressureOn, momentOn, momentExactOn, bottomPlate, resistanceOn, ResistsOn, pullOn, StrongOn}
+use Rattle.reports.specs.Figures.{designHeadOn, needOn, needExactOn, pressureOn, momentOn, momentExactOn, bottomPlate, resistanceOn, ResistsOn, pullOn, StrongOn}
 
--- a course's hoop need
-pub need-rounded : (t : Tank) (y : ℕ) (c : Course) → T (clear (courseFlaws c)) → AtLeast (needExactOn t y c) plateMargin (needOn t y c)
-need-rounded t y c k = let i = course-in c k in hoop-rounded _ _ _ _ (omega (arith, i .stress .0)) (omega (arith, i .efficiency .0))
+-- a course's hoop need, by a method
+pub need-rounded : (m : Method) (t : Tank) (y : ℕ) (c : Course) → T (clear (courseFlaws c)) → AtLeast (needExactOn m t y c) plateMargin (needOn m t y c)
+need-rounded m t y c k = let i = course-in c k in hoop-rounded _ _ _ _ (omega (arith, i .stress .0)) (omega (arith, i .efficiency .0))
 
 -- the wind's moment
 module _ (t : Tank) (x : Site) (Hs : ℕ) where
@@ -49,13 +50,16 @@ module _ (t : Tank) (h : T (clear (tankFlaws t))) where
   pub net-most : bottomPlate t ≤ mostPlate
   net-most = omega (arith, tank .plate .1)
 
-  module _ (y : ℕ) (c : Course) (k : T (clear (courseFlaws c))) where
-    pub need-in : needOn t y c ≤ mostNeed
+  pub head-in : (m : Method) (y : ℕ) → designHeadOn m t y ≤ mostHeight
+  head-in m y = design-head-most m _ (head-most (t .level) y (tank .level))
+
+  module _ (m : Method) (y : ℕ) (c : Course) (k : T (clear (courseFlaws c))) where
+    pub need-in : needOn m t y c ≤ mostNeed
     need-in =
         let i = course-in c k in
-        need-most _ (t .diameter) (c .stress) (c .efficiency) (head-most (t .level) y (tank .level)) (tank .diameter) (i .stress) (i .efficiency)
+        need-most _ (t .diameter) (c .stress) (c .efficiency) (head-in m y) (tank .diameter) (i .stress) (i .efficiency)
 
-    pub required-in : requiredPlate (needOn t y c) (c .allowance) (t .diameter) ≤ mostRequired
+    pub required-in : requiredPlate (needOn m t y c) (c .allowance) (t .diameter) ≤ mostRequired
     required-in = required-most _ (c .allowance) (t .diameter) need-in (course-in c k .allowance)
 
   module _ (x : Site) (k : T (clear (siteFlaws x))) where

@@ -1,87 +1,133 @@
 -- The laws of judging: what it comes to, by what the sheet holds; which refusal is answered, and when.
 -- Assumes nothing.
-use mathlib.Core.Path.{_≡_, refl, sym, ap, _∙_}
+use mathlib.Core.Path.{_≡_, refl, sym, ap, _∙_, subst}
+use mathlib.Core.Bool.{Bool, true, false, not, cond, true≢false}
 use mathlib.Core.List.{List, [], _∷_, _++_}
 use mathlib.Core.Logic.{_↔_}
-use Prim.Native.Nat.{_≤_, _<_}
+use Prim.Native.Nat.{ℕ, _≤_, _<_}
+use native.Mathlib.Omega.{arith}
+use lib.Dec.{T}
 use borrow.Author.Tests.{lt-ltb, le-ltb}
 use Rattle.fields.specs.Refusal.{plain}
 use Rattle.fields.specs.declared.refusal.Refusal.{Refusal}
-use Rattle.fields.specs.declared.refusal.Refusal.the-variants.{Unreachable, WaterAboveShell}
-use Rattle.fields.specs.Order.{firstOf, First, codes}
+use Rattle.fields.specs.declared.refusal.Refusal.the-variants.{Unreachable, WaterAboveShell, BadMethod}
+use Rattle.fields.specs.Order.{Condition, _when_, firstOf, First, answerCode, codes}
 use Rattle.fields.specs.declared.answer.Answer.{Answer}
 use Rattle.fields.specs.declared.answer.Answer.the-variants.{Accepted, Refused}
 use Rattle.fields.proofs.OrderLaws.{first-exactly}
+use Rattle.rules.specs.Method.{methodNumber, isMethod, otherMethod, methodOf}
+use Rattle.rules.specs.declared.method.Method.{Method}
+use Rattle.rules.proofs.MethodLaws.{is-method, method-of, other-exactly}
 use Rattle.entries.specs.declared.sheet.Sheet.{Sheet}
-use Rattle.sheet.specs.Steps.{LeftByRun}
-use Rattle.sheet.specs.Complete.{incomplete, entriesOf, statusOf, completedAs, completedOf, answerAs}
+use Rattle.sheet.specs.Steps.{LeftByRun, reachable}
+use Rattle.sheet.specs.Complete.{incomplete, entriesOf, statusOf, completedAs, completedOf, orderAfter}
 use Rattle.sheet.specs.declared.complete.Entries.{Entries}
 use Rattle.sheet.specs.declared.complete.Completeness as Status
 use Rattle.sheet.specs.declared.complete.Completed.{Completed}
 use Rattle.sheet.proofs.CompleteLaws.{complete-first, completed-is}
-use Rattle.sheet.proofs.AnswerLaws.{thirty-first}
-use Rattle.reports.specs.Judging.{waterAbove, judgeOrder, reportOn, refusedFor, unlessRefused, judged, judgedEntries, judgedCompleted}
+use Rattle.sheet.proofs.AnswerLaws.{never-answered, thirty-first}
+use Rattle.sheet.proofs.RebuildLaws.{left-exactly}
+use Rattle.reports.specs.Judging.{waterAbove, judgeOrder, reportOn, refusedFor, unlessRefused, judged, judgedEntries, judgedCompleted, afterThirty}
 use Rattle.reports.specs.declared.report.Judgement.{Judgement}
 
 -- ---- what judging comes to
 
-module _ (e : Entries) where
-  pub judge-above : e .height < e .tank .level → judgedEntries e ≡ refusedFor WaterAboveShell
+module _ (method : Method) (e : Entries) where
+  pub judge-above : e .height < e .tank .level → judgedEntries method e ≡ refusedFor WaterAboveShell
   unfolding judgedEntries
   judge-above l = rw (lt-ltb _ _ l)
 
-  pub judge-done : e .tank .level ≤ e .height → judgedEntries e ≡ reportOn e
+  pub judge-done : e .tank .level ≤ e .height → judgedEntries method e ≡ reportOn method e
   unfolding judgedEntries
   judge-done l = rw (le-ltb _ _ l)
 
--- by what a sheet is asked first
-module _ (c : Completed) where
-  pub by-unreachable : c .status ≡ Status.the-variants.Unreachable → judgedCompleted c ≡ refusedFor Unreachable
+-- by what a sheet is asked first, and a number that is no method's
+pub by-other : (n : ℕ) (c : Completed) → isMethod n ≡ false → judgedCompleted n c ≡ refusedFor (afterThirty (c .status) BadMethod)
+unfolding judgedCompleted
+by-other n c f = go (c .status)
+  where
+    go : (t : Status.Completeness)
+        → unlessRefused (firstOf (orderAfter t (otherMethod n ∷ []) (waterAbove (c .entries) ∷ []))) (reportOn (methodOf n) (c .entries))
+        ≡ refusedFor (afterThirty t BadMethod)
+    go Status.the-variants.Unreachable = refl
+    go (Status.the-variants.Refused r) = rw f
+    go Status.the-variants.Complete = rw f
+
+-- a method's own number
+module _ (m : Method) (c : Completed) where
+  pub by-unreachable : c .status ≡ Status.the-variants.Unreachable → judgedCompleted (methodNumber m) c ≡ refusedFor Unreachable
   unfolding judgedCompleted
   by-unreachable t = rw t
 
-  pub by-refused : {r : Refusal} → c .status ≡ Status.the-variants.Refused r → judgedCompleted c ≡ refusedFor r
+  pub by-refused : {r : Refusal} → c .status ≡ Status.the-variants.Refused r → judgedCompleted (methodNumber m) c ≡ refusedFor r
   unfolding judgedCompleted
-  by-refused t = rw t
+  by-refused t = rw (t, is-method m)
 
-  pub by-complete : c .status ≡ Status.the-variants.Complete → judgedCompleted c ≡ judgedEntries (c .entries)
-  unfolding judgedCompleted
-  by-complete t = rw t
+  pub by-complete : c .status ≡ Status.the-variants.Complete → judgedCompleted (methodNumber m) c ≡ judgedEntries m (c .entries)
+  unfolding judgedCompleted judgedEntries
+  by-complete t = rw (t, is-method m, method-of m)
 
-pub judged-completed : (s : Sheet) → judged s ≡ judgedCompleted (completedOf s)
-unfolding judged judgedCompleted judgedEntries
-judged-completed s =
-    ap (λ (a : Answer). unlessRefused a (reportOn e)) (complete-first s [] (waterAbove e ∷ []))
-    ∙ go (statusOf s)
-    ∙ ap judgedCompleted (sym (completed-is s refl))
+pub judged-completed : (n : ℕ) (s : Sheet) → judged n s ≡ judgedCompleted n (completedOf s)
+unfolding judged judgedCompleted
+judged-completed n s =
+    ap (λ (a : Answer). unlessRefused a (reportOn (methodOf n) e)) (complete-first s (otherMethod n ∷ []) (waterAbove e ∷ []))
+    ∙ go (statusOf s) (isMethod n)
+    ∙ ap (judgedCompleted n) (sym (completed-is s refl))
   where
     e : Entries
     e = entriesOf s
 
-    go : (t : Status.Completeness) → unlessRefused (answerAs t Accepted (firstOf (waterAbove e ∷ []))) (reportOn e) ≡ judgedCompleted (completedAs t e)
-    go Status.the-variants.Unreachable = refl
-    go (Status.the-variants.Refused r) = refl
-    go Status.the-variants.Complete = refl
+    -- by whether the number is a method's
+    other : Bool → Condition
+    other b = BadMethod when not b
+
+    go : (t : Status.Completeness) (b : Bool)
+        → unlessRefused (firstOf (orderAfter t (other b ∷ []) (waterAbove e ∷ []))) (reportOn (methodOf n) e)
+        ≡ unlessRefused (firstOf (orderAfter (completedAs t e .status) (other b ∷ []) (waterAbove (completedAs t e .entries) ∷ []))) (reportOn (methodOf n) (completedAs t e .entries))
+    go Status.the-variants.Unreachable b = refl
+    go (Status.the-variants.Refused r) true = refl
+    go (Status.the-variants.Refused r) false = refl
+    go Status.the-variants.Complete true = refl
+    go Status.the-variants.Complete false = refl
 
 -- ---- THE ORDER IN THE DOCUMENTS' NUMBERS, AND WHICH REFUSAL IS ANSWERED WHEN
 
-pub judge-order : (s : Sheet) → codes (judgeOrder s) ≡ plain 30 ∷ plain 32 ∷ plain 35 ∷ plain 36 ∷ plain 38 ∷ plain 37 ∷ []
-judge-order s = refl
+pub judge-order : (n : ℕ) (s : Sheet) → codes (judgeOrder n s) ≡ plain 30 ∷ plain 42 ∷ plain 32 ∷ plain 35 ∷ plain 36 ∷ plain 38 ∷ plain 37 ∷ []
+judge-order n s = refl
 
-answer-of : (a : Answer) (j : Judgement) → j .answer ≡ Accepted → unlessRefused a j .answer ≡ a
+pub answer-of : (a : Answer) (j : Judgement) → j .answer ≡ Accepted → unlessRefused a j .answer ≡ a
 answer-of Accepted j e = e
 answer-of (Refused r) j e = refl
 
-pub judged-answer : (s : Sheet) → judged s .answer ≡ firstOf (judgeOrder s)
+pub judged-answer : (n : ℕ) (s : Sheet) → judged n s .answer ≡ firstOf (judgeOrder n s)
 unfolding judged
-judged-answer s = answer-of (firstOf (judgeOrder s)) (reportOn (entriesOf s)) refl
+judged-answer n s = answer-of (firstOf (judgeOrder n s)) (reportOn (methodOf n) (entriesOf s)) refl
 
-pub judged-exactly : (s : Sheet) (r : Refusal) → (judged s .answer ≡ Refused r) ↔ First (judgeOrder s) r
-judged-exactly s r =
-    let f = first-exactly (judgeOrder s) r in
-    (λ e. f .0 (sym (judged-answer s) ∙ e), λ k. judged-answer s ∙ f .1 k)
+pub judged-exactly : (n : ℕ) (s : Sheet) (r : Refusal) → (judged n s .answer ≡ Refused r) ↔ First (judgeOrder n s) r
+judged-exactly n s r =
+    let f = first-exactly (judgeOrder n s) r in
+    (λ e. f .0 (sym (judged-answer n s) ∙ e), λ k. judged-answer n s ∙ f .1 k)
 
-pub thirty-judged : (s : Sheet) → (judged s .answer ≡ Refused Unreachable) ↔ (LeftByRun s → ⊥)
-thirty-judged s =
-    let f = thirty-first s (incomplete s ++ waterAbove (entriesOf s) ∷ []) tt in
-    (λ e. f .0 (sym (judged-answer s) ∙ e), λ n. judged-answer s ∙ f .1 n)
+pub thirty-judged : (n : ℕ) (s : Sheet) → (judged n s .answer ≡ Refused Unreachable) ↔ (LeftByRun s → ⊥)
+thirty-judged n s =
+    let f = thirty-first s (otherMethod n ∷ (incomplete s ++ waterAbove (entriesOf s) ∷ [])) tt in
+    (λ e. f .0 (sym (judged-answer n s) ∙ e), λ k. judged-answer n s ∙ f .1 k)
+
+-- 42 exactly where a run leaves the sheet and no method has the number
+pub forty-two-judged : (n : ℕ) (s : Sheet) → (judged n s .answer ≡ Refused BadMethod) ↔ (LeftByRun s × ((m : Method) → n ≡ methodNumber m → ⊥))
+forty-two-judged n s =
+    let f = go (reachable s) refl in
+    (λ e. f .0 (sym (judged-answer n s) ∙ e), λ k. judged-answer n s ∙ f .1 k)
+  where
+    later : List Condition
+    later = incomplete s ++ waterAbove (entriesOf s) ∷ []
+
+    second : (b : Bool) → otherMethod n .applies ≡ b → LeftByRun s
+        → (cond b (Refused BadMethod) (firstOf later) ≡ Refused BadMethod) ↔ (LeftByRun s × ((m : Method) → n ≡ methodNumber m → ⊥))
+    second true e l = (λ k. (l, other-exactly n .0 e), λ k. refl)
+    second false e l = (λ k. absurd (never-answered BadMethod later tt k), λ k. absurd (true≢false (sym (other-exactly n .1 (k .1)) ∙ e)))
+
+    go : (b : Bool) → reachable s ≡ b
+        → (cond (not b) (Refused Unreachable) (firstOf (otherMethod n ∷ later)) ≡ Refused BadMethod) ↔ (LeftByRun s × ((m : Method) → n ≡ methodNumber m → ⊥))
+    go true e = second (otherMethod n .applies) refl (left-exactly s .0 (subst T (sym e) tt))
+    go false e = (λ k. absurd (omega (arith, ap (λ (a : Answer). answerCode a .number) k)), λ k. absurd (subst T e (left-exactly s .1 (k .0))))

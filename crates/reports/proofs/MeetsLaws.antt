@@ -5,7 +5,7 @@ use mathlib.Core.Path.{_≡_, refl, sym, ap, _∙_, subst}
 use mathlib.Core.Bool.{Bool, true, false, cond, _&&_}
 use mathlib.Core.List.{List, [], _∷_}
 use mathlib.Core.Logic.{_⊎_, inl, inr}
-use Prim.Native.Nat.{ℕ, _+_, _-_, _*_, max, _≤_, _<_}
+use Prim.Native.Nat.{ℕ, _+_, _*_, max, _≤_, _<_}
 use native.Mathlib.Nat.{eq-zero-or-pos, lt-of-not-le, mul-le-mul-right, not-le-of-lt}
 use native.Mathlib.Decide.{decLe}
 use native.Mathlib.Omega.{arith}
@@ -21,6 +21,7 @@ use Rattle.stability.specs.Anchors.{largerPull}
 use Rattle.rules.specs.Hoop.{plateMargin, requiredPlate}
 use Rattle.rules.specs.Verdict.{holds}
 use Rattle.rules.specs.Wind.{momentMargin}
+use Rattle.rules.specs.declared.method.Method.{Method}
 use Rattle.stability.proofs.AnchorLaws.{larger-is}
 use Rattle.rules.proofs.HoopLaws.{required-meets, required-least}
 use Rattle.rules.proofs.VerdictLaws.{course-holds}
@@ -35,8 +36,8 @@ use Rattle.entries.specs.declared.sheet.Site.{Site}
 use Rattle.entries.specs.declared.sheet.Anchors.{Anchors}
 use Rattle.entries.specs.declared.sheet.Course.{Course}
 use Rattle.reports.specs.Figures.{needOn, needExactOn, momentOn, momentExactOn, resistanceOn, pullOn}
-use Rattle.reports.specs.Report.{lineOf, linesOf, selfChecks, anchorChecks, standingOf, stands, coursesHold, wordOf, tankWord}
-use Rattle.reports.specs.Meets.{noMargins, marginsFor, CourseMeets, CoursesMeet, SelfMeets, AnchorsMeet, MeetsWith, marginsOf}
+use Rattle.reports.specs.Report.{lineOf, linesOf, selfChecks, anchorChecks, standingOf, stands, coursesHold, wordOf, tankWord, reportOf}
+use Rattle.reports.specs.Meets.{Margins, noMargins, marginsFor, CourseMeets, CoursesMeet, SelfMeets, AnchorsMeet, MeetsWith, marginsOf}
 use Rattle.reports.specs.declared.report.SelfChecks.{SelfChecks}
 use Rattle.reports.specs.declared.report.AnchorChecks.{AnchorChecks}
 use Rattle.reports.specs.declared.report.Standing.{Standing}
@@ -55,44 +56,44 @@ plate-near f m need c t h k = go (decLe (need + c) t)
     go (yes l) = l
     go (no l) = absurd (omega (arith, h, k, mul-le-mul-right (plus f m .den) (lt-of-not-le l)))
 
-module _ (t : Tank) (y : ℕ) (c : Course) (k : T (clear (courseFlaws c))) where
-  line-holds : holds (lineOf t y c .verdict) ≡ leb (requiredPlate (needOn t y c) (c .allowance) (t .diameter)) (c .plate)
+module _ (method : Method) (t : Tank) (y : ℕ) (c : Course) (k : T (clear (courseFlaws c))) where
+  line-holds : holds (lineOf method t y c .verdict) ≡ leb (requiredPlate (needOn method t y c) (c .allowance) (t .diameter)) (c .plate)
   unfolding lineOf
-  line-holds = course-holds (requiredPlate (needOn t y c) (c .allowance) (t .diameter)) (c .plate)
+  line-holds = course-holds (requiredPlate (needOn method t y c) (c .allowance) (t .diameter)) (c .plate)
 
-  course-sound : holds (lineOf t y c .verdict) ≡ true → CourseMeets noMargins t y c
+  course-sound : holds (lineOf method t y c .verdict) ≡ true → CourseMeets noMargins t (needExactOn method t y c) c
   course-sound e =
-      let m = required-meets (needOn t y c) (c .allowance) (t .diameter) (c .plate) (leb-true _ _ (sym line-holds ∙ e)) in
-      record { floor = m .1; hoop = omega (arith, need-rounded t y c k .safe, mul-le-mul-right (needExactOn t y c .den) (m .0)) }
+      let m = required-meets (needOn method t y c) (c .allowance) (t .diameter) (c .plate) (leb-true _ _ (sym line-holds ∙ e)) in
+      record { floor = m .1; hoop = omega (arith, need-rounded method t y c k .safe, mul-le-mul-right (needExactOn method t y c .den) (m .0)) }
 
-  course-short : (Hs : ℕ) → holds (lineOf t y c .verdict) ≡ false → CourseMeets (marginsFor (t .diameter) Hs) t y c → ⊥
+  course-short : (Hs : ℕ) → holds (lineOf method t y c .verdict) ≡ false → CourseMeets (marginsFor (t .diameter) Hs) t (needExactOn method t y c) c → ⊥
   course-short Hs e m =
       not-le-of-lt (leb-false _ _ (sym line-holds ∙ e))
-      (required-least (needOn t y c) (c .allowance) (t .diameter) (c .plate)
-      (plate-near (needExactOn t y c) plateMargin (needOn t y c) (c .allowance) (c .plate) (need-rounded t y c k .near) (m .hoop))
+      (required-least (needOn method t y c) (c .allowance) (t .diameter) (c .plate)
+      (plate-near (needExactOn method t y c) plateMargin (needOn method t y c) (c .allowance) (c .plate) (need-rounded method t y c k .near) (m .hoop))
       (m .floor))
 
-module _ (t : Tank) where
-  courses-sound : (y : ℕ) (cs : List Course) → T (coursesClear cs) → coursesHold (linesOf t y cs) ≡ true → CoursesMeet noMargins t y cs
+module _ (method : Method) (t : Tank) where
+  courses-sound : (y : ℕ) (cs : List Course) → T (coursesClear cs) → coursesHold (linesOf method t y cs) ≡ true → CoursesMeet noMargins t method y cs
   unfolding coursesClear coursesHold
   courses-sound y [] k e = tt
   courses-sound y (c ∷ cs) k e =
       let a = and-yes (clear (courseFlaws c)) (coursesClear cs) k in
-      let b = both-hold (holds (lineOf t y c .verdict)) (coursesHold (linesOf t (y + c .width) cs)) e in
-      (course-sound t y c (a .0) (b .0), courses-sound (y + c .width) cs (a .1) (b .1))
+      let b = both-hold (holds (lineOf method t y c .verdict)) (coursesHold (linesOf method t (y + c .width) cs)) e in
+      (course-sound method t y c (a .0) (b .0), courses-sound (y + c .width) cs (a .1) (b .1))
 
-  courses-short : (Hs y : ℕ) (cs : List Course) → T (coursesClear cs) → coursesHold (linesOf t y cs) ≡ false
-      → CoursesMeet (marginsFor (t .diameter) Hs) t y cs → ⊥
+  courses-short : (Hs y : ℕ) (cs : List Course) → T (coursesClear cs) → coursesHold (linesOf method t y cs) ≡ false
+      → CoursesMeet (marginsFor (t .diameter) Hs) t method y cs → ⊥
   unfolding coursesClear coursesHold
   courses-short Hs y [] k e m = subst T e tt
   courses-short Hs y (c ∷ cs) k e m =
       go (and-yes (clear (courseFlaws c)) (coursesClear cs) k) (courses-short Hs (y + c .width) cs)
-      (one-fails (holds (lineOf t y c .verdict)) (coursesHold (linesOf t (y + c .width) cs)) e)
+      (one-fails (holds (lineOf method t y c .verdict)) (coursesHold (linesOf method t (y + c .width) cs)) e)
     where
       go : T (clear (courseFlaws c)) × T (coursesClear cs)
-          → (T (coursesClear cs) → coursesHold (linesOf t (y + c .width) cs) ≡ false → CoursesMeet (marginsFor (t .diameter) Hs) t (y + c .width) cs → ⊥)
-          → (holds (lineOf t y c .verdict) ≡ false) ⊎ (coursesHold (linesOf t (y + c .width) cs) ≡ false) → ⊥
-      go a rest (inl f) = course-short t y c (a .0) Hs f (m .0)
+          → (T (coursesClear cs) → coursesHold (linesOf method t (y + c .width) cs) ≡ false → CoursesMeet (marginsFor (t .diameter) Hs) t method (y + c .width) cs → ⊥)
+          → (holds (lineOf method t y c .verdict) ≡ false) ⊎ (coursesHold (linesOf method t (y + c .width) cs) ≡ false) → ⊥
+      go a rest (inl f) = course-short method t y c (a .0) Hs f (m .0)
       go a rest (inr f) = rest (a .1) f (m .1)
 
 -- ---- the two ways of standing
@@ -189,6 +190,18 @@ module _ (t : Tank) (k : T (clear (tankFlaws t))) (x : Site) (Hs : ℕ) where
             let q = strong-near t k a n p (whole (x .moment)) (x .moment) (omega arith) (omega arith) (m .quake) in
             omega (arith, s, w, q)
 
+-- ---- what the method does not touch: "Floors and margins are shared"
+
+-- the exact rules but for the courses' needs
+pub standing-shared : (method other : Method) (m : Margins) (e : Entries) → MeetsWith method m e → CoursesMeet m (e .tank) other 0 (coursesOf e) → MeetsWith other m e
+standing-shared method other m e k c = record { each-course = c; self-anchored = k .self-anchored; anchored = k .anchored }
+
+-- and the report but for its lines and its word
+pub report-shared : (method other : Method) (t : Tank) (x : Site) (a : Anchors) (cs : List Course) → let r = reportOf method t x a cs in let q = reportOf other t x a cs in
+    (r .count ≡ q .count) × ((r .pressure ≡ q .pressure) × ((r .moment ≡ q .moment) × ((r .standing ≡ q .standing) × (r .uses ≡ q .uses))))
+unfolding reportOf
+report-shared method other t x a cs = (refl, (refl, (refl, (refl, refl))))
+
 -- ---- the word
 
 -- it tells whether both tests passed; sound and short differ in their second letters
@@ -196,7 +209,7 @@ word-of : (b : Bool) → (tankWord (cond b Sound Short) ≡ ascii "sound" → b 
 word-of true = ((λ e. refl), λ e. absurd (omega (arith, ap (λ (l : List ℕ). getD l 1 0) e)))
 word-of false = ((λ e. absurd (omega (arith, ap (λ (l : List ℕ). getD l 1 0) e))), λ e. refl)
 
-module _ (e : Entries) (k : Valid e) where
+module _ (method : Method) (e : Entries) (k : Valid e) where
   abbrev t : Tank
   t = e .tank
 
@@ -231,7 +244,7 @@ module _ (e : Entries) (k : Valid e) where
     λ p. anchors-sound t (k .tank) x Hs a (k .anchors) p (ap stands (sym (anchored p)) ∙ h),
   )
 
-  stands-short : stands standing ≡ false → MeetsWith (marginsOf e) e → ⊥
+  stands-short : stands standing ≡ false → MeetsWith method (marginsOf e) e → ⊥
   stands-short h m = go (eq-zero-or-pos (a .number))
     where
       go : (a .number ≡ 0) ⊎ (0 < a .number) → ⊥
@@ -239,19 +252,19 @@ module _ (e : Entries) (k : Valid e) where
       go (inr p) = anchors-short t (k .tank) x Hs a (k .anchors) p (ap stands (sym (anchored p)) ∙ h) (m .anchored p)
 
   -- SOUND: EVERY RULE HOLDS WITH NOTHING ROUNDED
-  pub sound-meets : tankWord (wordOf (linesOf t 0 cs) standing) ≡ ascii "sound" → MeetsWith noMargins e
+  pub sound-meets : tankWord (wordOf (linesOf method t 0 cs) standing) ≡ ascii "sound" → MeetsWith method noMargins e
   unfolding wordOf
   sound-meets h =
-      let b = both-hold (coursesHold (linesOf t 0 cs)) (stands standing) (word-of (coursesHold (linesOf t 0 cs) && stands standing) .0 h) in
+      let b = both-hold (coursesHold (linesOf method t 0 cs)) (stands standing) (word-of (coursesHold (linesOf method t 0 cs) && stands standing) .0 h) in
       let s = stands-sound (b .1) in
-      record { each-course = courses-sound t 0 cs (k .courses) (b .0); self-anchored = s .0; anchored = s .1 }
+      record { each-course = courses-sound method t 0 cs (k .courses) (b .0); self-anchored = s .0; anchored = s .1 }
 
   -- SHORT: NOT EVERY RULE HOLDS ONCE ALL MARGINS ARE TAKEN AGAINST THE TANK
-  pub short-breaks : tankWord (wordOf (linesOf t 0 cs) standing) ≡ ascii "short" → MeetsWith (marginsOf e) e → ⊥
+  pub short-breaks : tankWord (wordOf (linesOf method t 0 cs) standing) ≡ ascii "short" → MeetsWith method (marginsOf e) e → ⊥
   unfolding wordOf
   short-breaks h m =
-      go (one-fails (coursesHold (linesOf t 0 cs)) (stands standing) (word-of (coursesHold (linesOf t 0 cs) && stands standing) .1 h))
+      go (one-fails (coursesHold (linesOf method t 0 cs)) (stands standing) (word-of (coursesHold (linesOf method t 0 cs) && stands standing) .1 h))
     where
-      go : (coursesHold (linesOf t 0 cs) ≡ false) ⊎ (stands standing ≡ false) → ⊥
-      go (inl f) = courses-short t Hs 0 cs (k .courses) f (m .each-course)
+      go : (coursesHold (linesOf method t 0 cs) ≡ false) ⊎ (stands standing ≡ false) → ⊥
+      go (inl f) = courses-short method t Hs 0 cs (k .courses) f (m .each-course)
       go (inr f) = stands-short f m

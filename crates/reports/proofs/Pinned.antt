@@ -1,11 +1,11 @@
 -- Demand 3 guarded on its weak side: exact figures and margins at literal numbers, and sheets at the edge of each exact rule, computed by the
 -- checker. For the second there is a test of the rules, which passes exactly where they are met.
 -- Assumes nothing.
-use mathlib.Core.Path.{_≡_, refl, sym, subst, _∙_}
+use mathlib.Core.Path.{_≡_, refl}
 use mathlib.Core.Bool.{Bool, true, false, not, cond, _&&_, _||_}
 use mathlib.Core.List.{List, [], _∷_, map}
 use mathlib.Core.Logic.{_⊎_, inl, inr}
-use Prim.Native.Nat.{ℕ, _+_, _-_, _*_, _≤_, _<_}
+use Prim.Native.Nat.{ℕ, _+_, _-_, _*_, _≤_}
 use native.Mathlib.Omega.{arith}
 use lib.Dec.{T, leb, eqb}
 use mir.Facts.{and-yes, yes-and, or-yes, leb-yes, yes-leb}
@@ -14,9 +14,11 @@ use Rattle.lists.specs.Each.{each}
 use Rattle.lists.proofs.BoolLaws.{three-yes, yes-three}
 use Rattle.exact.specs.Quotient.{Ratio, whole, plus}
 use Rattle.fields.specs.Bolt.{stressArea}
-use Rattle.rules.specs.Hoop.{headOf, hoopExact, plateMargin, plateFloor}
+use Rattle.rules.specs.Hoop.{headOf, designHead, hoopExact, plateMargin, plateFloor}
 use Rattle.rules.specs.Wind.{pressureExact, momentExact, momentMargin}
-use Rattle.stability.specs.Anchors.{pullMargin, Strong}
+use Rattle.rules.specs.declared.method.Method.{Method}
+use Rattle.rules.specs.declared.method.Method.the-variants.{D100, Api650}
+use Rattle.stability.specs.Anchors.{pullMargin}
 use Rattle.stability.specs.Earthquake.{Carried, shellExact, capExact, rootMost, Resists, resistanceMargin}
 use Rattle.entries.specs.Sheet.{heightOf}
 use Rattle.entries.specs.declared.sheet.Tank.{Tank}
@@ -25,12 +27,12 @@ use Rattle.entries.specs.declared.sheet.Anchors.{Anchors}
 use Rattle.entries.specs.declared.sheet.Course.{Course}
 use Rattle.sheet.specs.Complete.{entriesOf, coursesOf}
 use Rattle.sheet.specs.declared.complete.Entries.{Entries}
-use Rattle.reports.specs.Figures.{bottomPlate, ResistsOn, StrongOn}
+use Rattle.reports.specs.Figures.{needExactOn, bottomPlate, ResistsOn}
 use Rattle.reports.specs.Meets.{Margins, noMargins, plateWith, CourseMeets, CoursesMeet, momentWith, SelfMeets, AnchorsMeet, MeetsWith, marginsOf}
 use Rattle.reports.specs.Pinned.{pinnedOn, sheets, expectedFigures, Edge, edges, EachEdge}
 
 pub pinned : map pinnedOn sheets ≡ expectedFigures
-unfolding shellExact capExact rootMost resistanceMargin headOf hoopExact plateMargin pressureExact momentExact momentMargin pullMargin
+unfolding shellExact capExact rootMost resistanceMargin headOf designHead hoopExact plateMargin pressureExact momentExact momentMargin pullMargin
 pinned = refl
 
 -- ---- a test of the exact rules: met where it passes, and it passes where they are met
@@ -69,72 +71,81 @@ module _ (a h y most : ℕ) (cap : Ratio) where
       go (inr l) = or-right (leb a h) byRoot (yes-leb l)
 
 module _ (m : Margins) (t : Tank) where
-  abbrev courseTest : ℕ → Course → Bool
-  courseTest y c = leb (plateFloor (t .diameter)) (c .plate) && leb (plateWith m t y c .num) (c .plate * plateWith m t y c .den)
+  abbrev courseTest : Ratio → Course → Bool
+  courseTest need c = leb (plateFloor (t .diameter)) (c .plate) && leb (plateWith m need c .num) (c .plate * plateWith m need c .den)
 
-  abbrev coursesTest : ℕ → List Course → Bool
-  coursesTest y [] = true
-  coursesTest y (c ∷ cs) = courseTest y c && coursesTest (y + c .width) cs
+  course-met : (need : Ratio) (c : Course) → T (courseTest need c) → CourseMeets m t need c
+  course-met need c k =
+      let b = and-yes (leb (plateFloor (t .diameter)) (c .plate)) (leb (plateWith m need c .num) (c .plate * plateWith m need c .den)) k in
+      record { floor = leb-yes (b .0); hoop = leb-yes (b .1) }
 
-  courses-met : (y : ℕ) (cs : List Course) → T (coursesTest y cs) → CoursesMeet m t y cs
-  courses-met y [] k = tt
-  courses-met y (c ∷ cs) k =
-      let a = and-yes (courseTest y c) (coursesTest (y + c .width) cs) k in
-      let b = and-yes (leb (plateFloor (t .diameter)) (c .plate)) (leb (plateWith m t y c .num) (c .plate * plateWith m t y c .den)) (a .0) in
-      (record { floor = leb-yes (b .0); hoop = leb-yes (b .1) }, courses-met (y + c .width) cs (a .1))
+  course-test : (need : Ratio) (c : Course) → CourseMeets m t need c → T (courseTest need c)
+  course-test need c k =
+      yes-and (leb (plateFloor (t .diameter)) (c .plate)) (leb (plateWith m need c .num) (c .plate * plateWith m need c .den)) (yes-leb (k .floor)) (yes-leb (k .hoop))
 
-  courses-test : (y : ℕ) (cs : List Course) → CoursesMeet m t y cs → T (coursesTest y cs)
-  courses-test y [] k = tt
-  courses-test y (c ∷ cs) k =
-      yes-and (courseTest y c) (coursesTest (y + c .width) cs)
-      (yes-and (leb (plateFloor (t .diameter)) (c .plate)) (leb (plateWith m t y c .num) (c .plate * plateWith m t y c .den)) (yes-leb (k .0 .floor)) (yes-leb (k .0 .hoop)))
-      (courses-test (y + c .width) cs (k .1))
+  module _ (method : Method) where
+    abbrev coursesTest : ℕ → List Course → Bool
+    coursesTest y [] = true
+    coursesTest y (c ∷ cs) = courseTest (needExactOn method t y c) c && coursesTest (y + c .width) cs
 
-  module _ (x : Site) (Hs : ℕ) where
-    abbrev M : Ratio
-    M = momentWith m t x Hs
+    courses-met : (y : ℕ) (cs : List Course) → T (coursesTest y cs) → CoursesMeet m t method y cs
+    courses-met y [] k = tt
+    courses-met y (c ∷ cs) k =
+        let a = and-yes (courseTest (needExactOn method t y c) c) (coursesTest (y + c .width) cs) k in
+        (course-met (needExactOn method t y c) c (a .0), courses-met (y + c .width) cs (a .1))
 
-    abbrev windTest : Bool
-    windTest = leb (3600 * M .num) (t .weight * t .diameter * M .den)
+    courses-test : (y : ℕ) (cs : List Course) → CoursesMeet m t method y cs → T (coursesTest y cs)
+    courses-test y [] k = tt
+    courses-test y (c ∷ cs) k =
+        yes-and (courseTest (needExactOn method t y c) c) (coursesTest (y + c .width) cs)
+        (course-test (needExactOn method t y c) c (k .0))
+        (courses-test (y + c .width) cs (k .1))
 
-    abbrev asked : Ratio
-    asked = plus (record { num = 1000 * x .moment; den = 1540 }) (m .resistance)
+module _ (m : Margins) (t : Tank) (x : Site) (Hs : ℕ) where
+  abbrev M : Ratio
+  M = momentWith m t x Hs
 
-    abbrev wt : Ratio
-    wt = shellExact (t .weight) (x .vertical) (t .diameter)
+  abbrev windTest : Bool
+  windTest = leb (3600 * M .num) (t .weight * t .diameter * M .den)
 
-    abbrev quakeTest : Bool
-    quakeTest =
-        carriedTest (144000000 * asked .num * wt .den) (wt .num * (asked .den * (t .diameter * t .diameter))) (asked .den * (t .diameter * t .diameter) * wt .den) (rootMost (bottomPlate t) (t .fy) (t .level)) (capExact (t .level) (t .diameter))
+  abbrev asked : Ratio
+  asked = plus (record { num = 1000 * x .moment; den = 1540 }) (m .resistance)
 
-    self-met : T (windTest && quakeTest) → SelfMeets m t x Hs
-    unfolding ResistsOn Resists
-    self-met k = let a = and-yes windTest quakeTest k in record { wind = leb-yes (a .0); quake = carried-met _ _ _ _ _ (a .1) }
+  abbrev wt : Ratio
+  wt = shellExact (t .weight) (x .vertical) (t .diameter)
 
-    self-test : SelfMeets m t x Hs → T (windTest && quakeTest)
-    unfolding ResistsOn Resists
-    self-test k = yes-and windTest quakeTest (yes-leb (k .wind)) (carried-test _ _ _ _ _ (k .quake))
+  abbrev quakeTest : Bool
+  quakeTest =
+      carriedTest (144000000 * asked .num * wt .den) (wt .num * (asked .den * (t .diameter * t .diameter))) (asked .den * (t .diameter * t .diameter) * wt .den) (rootMost (bottomPlate t) (t .fy) (t .level)) (capExact (t .level) (t .diameter))
 
-    module _ (a : Anchors) where
-      abbrev strongTest : Ratio → Bool
-      strongTest f =
-          let s = a .number * a .circle in
-          leb (1000 * (4800 * f .num * m .pull .den + m .pull .num * s * f .den))
-          ((19950 * stressArea (a .size) * s + 1000 * (t .weight * a .circle)) * (f .den * m .pull .den))
+  self-met : T (windTest && quakeTest) → SelfMeets m t x Hs
+  unfolding ResistsOn Resists
+  self-met k = let a = and-yes windTest quakeTest k in record { wind = leb-yes (a .0); quake = carried-met _ _ _ _ _ (a .1) }
 
-      abbrev spacingTest : Bool
-      spacingTest = leb (355 * a .circle) (1356000 * a .number)
+  self-test : SelfMeets m t x Hs → T (windTest && quakeTest)
+  unfolding ResistsOn Resists
+  self-test k = yes-and windTest quakeTest (yes-leb (k .wind)) (carried-test _ _ _ _ _ (k .quake))
 
-      anchors-met : T (spacingTest && strongTest M && strongTest (whole (x .moment))) → AnchorsMeet m t x Hs a
-      anchors-met k =
-          let b = three-yes spacingTest (strongTest M) (strongTest (whole (x .moment))) k in
-          record { spacing = leb-yes (b .0); wind = record { strong = leb-yes (b .1) }; quake = record { strong = leb-yes (b .2) } }
+  module _ (a : Anchors) where
+    abbrev strongTest : Ratio → Bool
+    strongTest f =
+        let s = a .number * a .circle in
+        leb (1000 * (4800 * f .num * m .pull .den + m .pull .num * s * f .den))
+        ((19950 * stressArea (a .size) * s + 1000 * (t .weight * a .circle)) * (f .den * m .pull .den))
 
-      anchors-test : AnchorsMeet m t x Hs a → T (spacingTest && strongTest M && strongTest (whole (x .moment)))
-      anchors-test k =
-          yes-three spacingTest (strongTest M) (strongTest (whole (x .moment))) (yes-leb (k .spacing)) (yes-leb (k .wind .strong)) (yes-leb (k .quake .strong))
+    abbrev spacingTest : Bool
+    spacingTest = leb (355 * a .circle) (1356000 * a .number)
 
-module _ (m : Margins) (e : Entries) where
+    anchors-met : T (spacingTest && strongTest M && strongTest (whole (x .moment))) → AnchorsMeet m t x Hs a
+    anchors-met k =
+        let b = three-yes spacingTest (strongTest M) (strongTest (whole (x .moment))) k in
+        record { spacing = leb-yes (b .0); wind = record { strong = leb-yes (b .1) }; quake = record { strong = leb-yes (b .2) } }
+
+    anchors-test : AnchorsMeet m t x Hs a → T (spacingTest && strongTest M && strongTest (whole (x .moment)))
+    anchors-test k =
+        yes-three spacingTest (strongTest M) (strongTest (whole (x .moment))) (yes-leb (k .spacing)) (yes-leb (k .wind .strong)) (yes-leb (k .quake .strong))
+
+module _ (method : Method) (m : Margins) (e : Entries) where
   abbrev Hs : ℕ
   Hs = heightOf (coursesOf e)
 
@@ -151,21 +162,21 @@ module _ (m : Margins) (e : Entries) where
   standingTest none = cond none selfTest anchorsTest
 
   abbrev meetsTest : Bool
-  meetsTest = coursesTest m (e .tank) 0 (coursesOf e) && standingTest (eqb (e .anchors .number) 0)
+  meetsTest = coursesTest m (e .tank) method 0 (coursesOf e) && standingTest (eqb (e .anchors .number) 0)
 
-  test-meets : T meetsTest → MeetsWith m e
+  test-meets : T meetsTest → MeetsWith method m e
   test-meets k =
-      let a = and-yes (coursesTest m (e .tank) 0 (coursesOf e)) (standingTest (eqb (e .anchors .number) 0)) k in
+      let a = and-yes (coursesTest m (e .tank) method 0 (coursesOf e)) (standingTest (eqb (e .anchors .number) 0)) k in
       record {
-        each-course = courses-met m (e .tank) 0 (coursesOf e) (a .0);
+        each-course = courses-met m (e .tank) method 0 (coursesOf e) (a .0);
         self-anchored = λ z. self-met m (e .tank) (e .site) Hs (rw (eq-eqb _ _ z) at (a .1));
         anchored = λ p. anchors-met m (e .tank) (e .site) Hs (e .anchors) (rw (ne-eqb (e .anchors .number) 0 (λ z. omega (arith, z, p))) at (a .1));
       }
 
-  meets-test : MeetsWith m e → T meetsTest
+  meets-test : MeetsWith method m e → T meetsTest
   meets-test k =
-      yes-and (coursesTest m (e .tank) 0 (coursesOf e)) (standingTest (eqb (e .anchors .number) 0))
-      (courses-test m (e .tank) 0 (coursesOf e) (k .each-course))
+      yes-and (coursesTest m (e .tank) method 0 (coursesOf e)) (standingTest (eqb (e .anchors .number) 0))
+      (courses-test m (e .tank) method 0 (coursesOf e) (k .each-course))
       (go (eqb (e .anchors .number) 0) refl)
     where
       go : (b : Bool) → eqb (e .anchors .number) 0 ≡ b → T (standingTest b)
@@ -176,23 +187,25 @@ module _ (m : Margins) (e : Entries) where
 
 -- ---- THE EDGES: the first sheet of each meets every rule with the margins, the second breaks one without
 
-abbrev edgeTest : Edge → Bool
-edgeTest d =
-    meetsTest (marginsOf (entriesOf (d .meets))) (entriesOf (d .meets)) && not (meetsTest noMargins (entriesOf (d .breaks)))
-
 not-both : (b : Bool) → T (not b) → T b → ⊥
 not-both true n t = n
 not-both false n t = t
 
-each-edge : (ds : List Edge) → T (each edgeTest ds) → EachEdge ds
-each-edge [] k = tt
-each-edge (d ∷ ds) k =
-    let a = and-yes (edgeTest d) (each edgeTest ds) k in
-    let inside = meetsTest (marginsOf (entriesOf (d .meets))) (entriesOf (d .meets)) in
-    let outside = meetsTest noMargins (entriesOf (d .breaks)) in
-    let b = and-yes inside (not outside) (a .0) in
-    ((test-meets (marginsOf (entriesOf (d .meets))) (entriesOf (d .meets)) (b .0), λ m. not-both outside (b .1) (meets-test noMargins (entriesOf (d .breaks)) m)), each-edge ds (a .1))
+module _ (method : Method) where
+  abbrev edgeTest : Edge → Bool
+  edgeTest d =
+      meetsTest method (marginsOf (entriesOf (d .meets))) (entriesOf (d .meets)) && not (meetsTest method noMargins (entriesOf (d .breaks)))
 
-pub edges-hold : EachEdge edges
-unfolding shellExact capExact rootMost resistanceMargin headOf hoopExact plateMargin plateFloor pressureExact momentExact momentMargin stressArea pullMargin
-edges-hold = each-edge edges tt
+  each-edge : (ds : List Edge) → T (each edgeTest ds) → EachEdge method ds
+  each-edge [] k = tt
+  each-edge (d ∷ ds) k =
+      let a = and-yes (edgeTest d) (each edgeTest ds) k in
+      let inside = meetsTest method (marginsOf (entriesOf (d .meets))) (entriesOf (d .meets)) in
+      let outside = meetsTest method noMargins (entriesOf (d .breaks)) in
+      let b = and-yes inside (not outside) (a .0) in
+      ((test-meets method (marginsOf (entriesOf (d .meets))) (entriesOf (d .meets)) (b .0), λ m. not-both outside (b .1) (meets-test method noMargins (entriesOf (d .breaks)) m)), each-edge ds (a .1))
+
+pub edges-hold : (method : Method) → EachEdge method (edges method)
+unfolding shellExact capExact rootMost resistanceMargin headOf designHead hoopExact plateMargin plateFloor pressureExact momentExact momentMargin stressArea pullMargin
+edges-hold D100 = each-edge D100 (edges D100) tt
+edges-hold Api650 = each-edge Api650 (edges Api650) tt

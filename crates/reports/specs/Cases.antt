@@ -1,5 +1,5 @@
 -- The cases that document 01 marks ◆: "The example tank" with the figures changed that the case names, and what its
--- report then says. And the same tank with its anchors left out (document 02, S-1).
+-- report then says; beside them the case of document 02, S-3. And the same tank with its anchors left out (document 02, S-1).
 use mathlib.Core.List.{List, [], _∷_}
 use Prim.Native.Nat.{ℕ, _-_}
 use lib.IntN.{ℤ, pos, negℤ}
@@ -49,6 +49,13 @@ abbrev pub exampleUnstated : Sheet
 exampleUnstated =
     record { tank = example .tank; site = example .site; anchors = AnchorsEntry.the-variants.Blank; courses = example .courses; count = example .count }
 
+-- "The tank in source document 002 (12 ft across, 24 ft of water, 21,000 psi, efficiency 0.70, 8 ft steps)": the example's but for stress and
+-- efficiency; with a plate and an allowance of one's own
+abbrev pub source002With : ℕ → ℕ → Sheet
+source002With t c =
+    let k : Course = record { width = 9600; plate = t; allowance = c; stress = 21000; efficiency = 70 } in
+    record { tank = example .tank; site = example .site; anchors = example .anchors; courses = k ∷ k ∷ k ∷ replicate 9 blankCourse; count = 3 }
+
 -- What a report says at one place: a number, or a word; of the other way of standing there is nothing to say.
 pub data Excerpt : Type 0 where
   number : ℤ → Excerpt
@@ -58,6 +65,12 @@ pub data Excerpt : Type 0 where
 -- of the course with this number, from 1 on
 abbrev pub needOf : ℕ → Report → Excerpt
 needOf k report = number (pos (getD (report .lines) (k - 1) blankLine .need))
+
+abbrev pub requiredOf : ℕ → Report → Excerpt
+requiredOf k report = number (pos (getD (report .lines) (k - 1) blankLine .required))
+
+abbrev pub courseWord : ℕ → Report → Excerpt
+courseWord k report = word (verdictWord (getD (report .lines) (k - 1) blankLine .verdict))
 
 abbrev pub pressure : Report → Excerpt
 pressure report = number (pos (report .pressure))
@@ -76,12 +89,17 @@ abbrev pub lift : Report → Excerpt
 lift report = byStanding (λ checks. word (upliftWord (checks .uplift))) (λ checks. nothing) (report .standing)
 
 pub record Case : Type 0 where
+  pub by : ℕ
   pub sheet : Sheet
   pub part : Report → Excerpt
   pub expects : Excerpt
 
+-- by the method with this number
+abbrev pub caseBy : ℕ → Sheet → (Report → Excerpt) → Excerpt → Case
+caseBy n sheet part expects = record { by = n; sheet = sheet; part = part; expects = expects }
+
 abbrev pub case : Sheet → (Report → Excerpt) → Excerpt → Case
-case sheet part expects = record { sheet = sheet; part = part; expects = expects }
+case = caseBy 1
 
 abbrev pub provedCases : List Case
 provedCases =
@@ -97,6 +115,14 @@ provedCases =
     ∷ case (exampleWith 105 74298 noAnchors) lift (word lift-word)
     ∷ case (exampleWith 105 145754 noAnchors) lift (word lift-word)
     ∷ case (exampleWith 105 145755 noAnchors) lift (word over-word)
+    ∷ caseBy 2 (source002With 250 0) (needOf 1) (number (pos 49))
+    ∷ caseBy 2 (source002With 250 0) (needOf 2) (number (pos 32))
+    ∷ caseBy 2 (source002With 250 0) (needOf 3) (number (pos 15))
+    -- with an allowance of 139 the 49 come to just the floor, D100's 51 to two mils more
+    ∷ caseBy 2 (source002With 188 139) (requiredOf 1) (number (pos 188))
+    ∷ caseBy 2 (source002With 188 139) (courseWord 1) (word ok-word)
+    ∷ case (source002With 188 139) (requiredOf 1) (number (pos 190))
+    ∷ case (source002With 188 139) (courseWord 1) (word short-word)
     ∷ []
 
 -- What judging a case's sheet comes to: no refusal, and what the case says.
@@ -105,7 +131,9 @@ pub record Outcome : Type 0 where
   pub excerpt : Excerpt
 
 abbrev pub outcome : Case → Outcome
-outcome c = record { answer = answerCode (judged (c .sheet) .answer); excerpt = c .part (judged (c .sheet) .report) }
+outcome c =
+    let j = judged (c .by) (c .sheet) in
+    record { answer = answerCode (j .answer); excerpt = c .part (j .report) }
 
 abbrev pub expected : Case → Outcome
 expected c = record { answer = plain 0; excerpt = c .expects }

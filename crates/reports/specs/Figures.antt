@@ -1,23 +1,28 @@
--- The figures of a sheet: each rule of document 01 on what a sheet holds, rounded for the report and exact for demand 3, side by side.
+-- The figures of a sheet: each rule of document 01, that of hoop by either method (document 02, S-3), on what a sheet holds, rounded for the
+-- report and exact for demand 3, side by side.
 use Prim.Native.Nat.{ℕ, _-_}
 use lib.IntN.{ℤ}
 use Rattle.exact.specs.Quotient.{Ratio}
 use Rattle.fields.specs.Bolt.{stressArea}
 use Rattle.stability.specs.Anchors.{pullOf, Strong}
 use Rattle.stability.specs.Earthquake.{shellWeight, bottomWeight, resistanceOf, Resists}
-use Rattle.rules.specs.Hoop.{headOf, hoopExact, hoopNeed}
+use Rattle.rules.specs.Hoop.{headOf, designHead, hoopExact, hoopNeed}
 use Rattle.rules.specs.Wind.{pressureOf, momentExact, momentOf}
+use Rattle.rules.specs.declared.method.Method.{Method}
 use Rattle.entries.specs.declared.sheet.Tank.{Tank}
 use Rattle.entries.specs.declared.sheet.Site.{Site}
 use Rattle.entries.specs.declared.sheet.Anchors.{Anchors}
 use Rattle.entries.specs.declared.sheet.Course.{Course}
 
--- the hoop need of a course whose bottom edge is at y, without its allowance
-abbrev pub needOn : Tank → ℕ → Course → ℕ
-needOn tank y course = hoopNeed (headOf (tank .level) y) (tank .diameter) (course .stress) (course .efficiency)
+-- by a method, of a course whose bottom edge is at y: what stands for h, and the hoop need without the allowance
+abbrev pub designHeadOn : Method → Tank → ℕ → ℕ
+designHeadOn method tank y = designHead method (headOf (tank .level) y)
 
-abbrev pub needExactOn : Tank → ℕ → Course → Ratio
-needExactOn tank y course = hoopExact (headOf (tank .level) y) (tank .diameter) (course .stress) (course .efficiency)
+abbrev pub needOn : Method → Tank → ℕ → Course → ℕ
+needOn method tank y course = hoopNeed (designHeadOn method tank y) (tank .diameter) (course .stress) (course .efficiency)
+
+abbrev pub needExactOn : Method → Tank → ℕ → Course → Ratio
+needExactOn method tank y course = hoopExact (designHeadOn method tank y) (tank .diameter) (course .stress) (course .efficiency)
 
 -- wind: p, and M on a shell of height Hs
 abbrev pub pressureOn : Site → ℕ

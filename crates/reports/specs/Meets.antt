@@ -1,5 +1,6 @@
--- Demand 3 in fractions: document 01, the end of "The rules". The exact rules take the fields only, nothing of the report, and round
--- nothing; one text serves every margin. Fractions are compared as whole numbers, their divisors multiplied out.
+-- Demand 3 in fractions: document 01, the end of "The rules"; document 02, S-3. The exact rules take the fields only, nothing of the
+-- report, and round nothing; one text serves every margin and either method for hoop need. Fractions are compared as whole numbers, their
+-- divisors multiplied out.
 use mathlib.Core.Path.{_≡_}
 use mathlib.Core.List.{List, [], _∷_}
 use mathlib.Core.Logic.{_⊎_}
@@ -10,7 +11,9 @@ use Rattle.fields.specs.Refusal.{plain}
 use Rattle.stability.specs.Anchors.{pullMargin}
 use Rattle.stability.specs.Earthquake.{resistanceMargin}
 use Rattle.rules.specs.Hoop.{plateFloor, plateMargin}
+use Rattle.rules.specs.Method.{methodNumber}
 use Rattle.rules.specs.Wind.{momentMargin}
+use Rattle.rules.specs.declared.method.Method.{Method}
 use Rattle.fields.specs.Order.{answerCode}
 use Rattle.entries.specs.Sheet.{heightOf}
 use Rattle.entries.specs.declared.sheet.Tank.{Tank}
@@ -44,18 +47,21 @@ marginsFor D Hs =
       pull = pullMargin;
     }
 
+-- an exact hoop need + m + c
+abbrev pub plateWith : Margins → Ratio → Course → Ratio
+plateWith margins need course = plus (plus need (margins .plate)) (whole (course .allowance))
+
 module _ (margins : Margins) (tank : Tank) where
-  -- "Each course: t at least the floor, and at least 13 × h × D / (72 × s × E) + m + c", its bottom edge at y
-  abbrev pub plateWith : ℕ → Course → Ratio
-  plateWith y course = plus (plus (needExactOn tank y course) (margins .plate)) (whole (course .allowance))
-
-  pub record CourseMeets (y : ℕ) (course : Course) : Type 0 where
+  -- "Each course: t at least the floor, and at least 13 × h × D / (72 × s × E) + m + c", that need being given
+  pub record CourseMeets (need : Ratio) (course : Course) : Type 0 where
     pub floor : plateFloor (tank .diameter) ≤ course .plate
-    pub hoop : plateWith y course .num ≤ course .plate * plateWith y course .den
+    pub hoop : plateWith margins need course .num ≤ course .plate * plateWith margins need course .den
 
-  abbrev pub CoursesMeet : ℕ → List Course → Type 0
-  CoursesMeet y [] = Unit {0}
-  CoursesMeet y (course ∷ above) = CourseMeets y course × CoursesMeet (y + course .width) above
+  -- each with the method's need, unrounded, the first one's bottom edge at y
+  abbrev pub CoursesMeet : Method → ℕ → List Course → Type 0
+  CoursesMeet method y [] = Unit {0}
+  CoursesMeet method y (course ∷ above) =
+      CourseMeets (needExactOn method tank y course) course × CoursesMeet method (y + course .width) above
 
   module _ (site : Site) (Hs : ℕ) where
     -- "Moment: .. M is p × D × Hs × Hs / 345,600,000,000 + m", with the unrounded p
@@ -75,21 +81,25 @@ module _ (margins : Margins) (tank : Tank) where
       pub quake : StrongOn tank anchors (whole (site .moment)) (margins .pull)
 
 -- All of the rules together: every course, and those of its way of standing.
-pub record Meets (margins : Margins) (tank : Tank) (site : Site) (anchors : Anchors) (courses : List Course) : Type 0 where
-  pub each-course : CoursesMeet margins tank 0 courses
+pub record Meets (method : Method) (margins : Margins) (tank : Tank) (site : Site) (anchors : Anchors) (courses : List Course) : Type 0 where
+  pub each-course : CoursesMeet margins tank method 0 courses
   pub self-anchored : anchors .number ≡ 0 → SelfMeets margins tank site (heightOf courses)
   pub anchored : 0 < anchors .number → AnchorsMeet margins tank site (heightOf courses) anchors
 
 -- the same of a sheet's entries, and its margins
-abbrev pub MeetsWith : Margins → Entries → Type 0
-MeetsWith margins e = Meets margins (e .tank) (e .site) (e .anchors) (coursesOf e)
+abbrev pub MeetsWith : Method → Margins → Entries → Type 0
+MeetsWith method margins e = Meets method margins (e .tank) (e .site) (e .anchors) (coursesOf e)
 
 abbrev pub marginsOf : Entries → Margins
 marginsOf e = marginsFor (e .tank .diameter) (heightOf (coursesOf e))
 
--- Demand 3, of a sheet's entries and the judgement on it, where that is no refusal: its word is one of document 01's two; "If the word is
--- sound, all of them hold with each margin m at 0; if it is short, not all of them hold with each m as given".
-pub record Justified (e : Entries) (j : Judgement) : Type 0 where
+-- Demand 3, of a sheet's entries and the judgement on it by a method, where that is no refusal: its word is one of document 01's two; "If
+-- the word is sound, all of them hold with each margin m at 0; if it is short, not all of them hold with each m as given".
+pub record Justified (method : Method) (e : Entries) (j : Judgement) : Type 0 where
   pub called : answerCode (j .answer) ≡ plain 0 → (tankWord (j .report .word) ≡ ascii "sound") ⊎ (tankWord (j .report .word) ≡ ascii "short")
-  pub sound : answerCode (j .answer) ≡ plain 0 → tankWord (j .report .word) ≡ ascii "sound" → MeetsWith noMargins e
-  pub short : answerCode (j .answer) ≡ plain 0 → tankWord (j .report .word) ≡ ascii "short" → MeetsWith (marginsOf e) e → ⊥
+  pub sound : answerCode (j .answer) ≡ plain 0 → tankWord (j .report .word) ≡ ascii "sound" → MeetsWith method noMargins e
+  pub short : answerCode (j .answer) ≡ plain 0 → tankWord (j .report .word) ≡ ascii "short" → MeetsWith method (marginsOf e) e → ⊥
+
+-- the same of a number: where there is a report, a method has this number, and its rules bear out the word
+abbrev pub JustifiedBy : ℕ → Entries → Judgement → Type 0
+JustifiedBy n e j = answerCode (j .answer) ≡ plain 0 → (method : Method) × ((n ≡ methodNumber method) × Justified method e j)

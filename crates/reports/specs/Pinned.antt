@@ -5,6 +5,8 @@ use mathlib.Core.List.{List, [], _∷_, _++_}
 use Prim.Native.Nat.{ℕ, _+_}
 use lib.ListN.{replicate}
 use Rattle.exact.specs.Quotient.{Ratio, whole}
+use Rattle.rules.specs.declared.method.Method.{Method}
+use Rattle.rules.specs.declared.method.Method.the-variants.{D100, Api650}
 use Rattle.stability.specs.Earthquake.{shellExact, capExact, rootMost}
 use Rattle.entries.specs.Sheet.{noAnchors, blankCourse, heightOf}
 use Rattle.entries.specs.declared.sheet.Anchors.{Anchors}
@@ -15,7 +17,7 @@ use Rattle.entries.specs.declared.sheet.AnchorsEntry as AnchorsEntry
 use Rattle.entries.specs.declared.sheet.Sheet.{Sheet}
 use Rattle.sheet.specs.Complete.{entriesOf, coursesOf}
 use Rattle.sheet.specs.declared.complete.Entries.{Entries}
-use Rattle.reports.specs.Cases.{exampleWith, sixOn, example}
+use Rattle.reports.specs.Cases.{exampleWith, sixOn, example, source002With}
 use Rattle.reports.specs.Figures.{needExactOn, momentExactOn, bottomPlate}
 use Rattle.reports.specs.Meets.{noMargins, plateWith, momentWith, MeetsWith, marginsOf}
 
@@ -47,11 +49,12 @@ abbrev pub byCourse : (ℕ → Course → Ratio) → ℕ → List Course → Lis
 byCourse f y [] = []
 byCourse f y (course ∷ above) = f y course ∷ byCourse f (y + course .width) above
 
--- 13 × h × D / (72 × s × E) of each course; p × D × Hs × Hs / 345,600,000,000, p being 6 × Kz × I × V × V / 390,625 or 1,800; wt,
--- 2,712,000 × W × (10,000 - 4 × Av) / (710,000 × D); H × D / 11,250; 6,241 × tb × tb × Fy × H
+-- 13 × h × D / (72 × s × E) of each course, by D100, then by API 650 with h - 1,200, or 0, for h; p × D × Hs × Hs / 345,600,000,000, p being
+-- 6 × Kz × I × V × V / 390,625 or 1,800; wt, 2,712,000 × W × (10,000 - 4 × Av) / (710,000 × D); H × D / 11,250; 6,241 × tb × tb × Fy × H
 abbrev pub exactFigures : Entries → List Ratio
 exactFigures e =
-    byCourse (needExactOn (e .tank)) 0 (coursesOf e)
+    byCourse (needExactOn D100 (e .tank)) 0 (coursesOf e)
+    ++ byCourse (needExactOn Api650 (e .tank)) 0 (coursesOf e)
     ++ momentExactOn (e .tank) (e .site) (heightOf (coursesOf e))
     ∷ shellExact (e .tank .weight) (e .site .vertical) (e .tank .diameter)
     ∷ capExact (e .tank .level) (e .tank .diameter)
@@ -62,10 +65,14 @@ exactFigures e =
 abbrev pub marginList : Entries → List Ratio
 marginList e = let m = marginsOf e in m .plate ∷ m .moment ∷ m .resistance ∷ m .pull ∷ []
 
--- need + m + c of each course, and M + m
+abbrev pub plateOn : Method → Entries → ℕ → Course → Ratio
+plateOn method e y course = plateWith (marginsOf e) (needExactOn method (e .tank) y course) course
+
+-- need + m + c of each course, by D100, then by API 650, and M + m
 abbrev pub shiftedFigures : Entries → List Ratio
 shiftedFigures e =
-    byCourse (plateWith (marginsOf e) (e .tank)) 0 (coursesOf e)
+    byCourse (plateOn D100 e) 0 (coursesOf e)
+    ++ byCourse (plateOn Api650 e) 0 (coursesOf e)
     ++ momentWith (marginsOf e) (e .tank) (e .site) (heightOf (coursesOf e))
     ∷ []
 
@@ -82,6 +89,9 @@ exampleExact =
     (5391360000 over 91800000)
     ∷ (3594240000 over 91800000)
     ∷ (1797120000 over 91800000)
+    ∷ (5166720000 over 91800000)
+    ∷ (3369600000 over 91800000)
+    ∷ (1572480000 over 91800000)
     ∷ (9903795277824000000000 over 135000000000000000)
     ∷ (295098144000000 over 10224000000)
     ∷ (414720000 over 11250)
@@ -101,6 +111,9 @@ exampleShifted =
     (5483160000 over 91800000)
     ∷ (3686040000 over 91800000)
     ∷ (1888920000 over 91800000)
+    ∷ (5258520000 over 91800000)
+    ∷ (3461400000 over 91800000)
+    ∷ (1664280000 over 91800000)
     ∷ (3424410735375974400000000000000000 over 46656000000000000000000000000)
     ∷ []
 
@@ -109,6 +122,9 @@ secondExact =
     (23400390000 over 100800000)
     ∷ (12168202800 over 110160000)
     ∷ (936015600 over 108000000)
+    ∷ (22464374400 over 100800000)
+    ∷ (11232187200 over 110160000)
+    ∷ (0 over 108000000)
     ∷ (44287488112500000000000 over 135000000000000000)
     ∷ (4881600000000000 over 42600710000)
     ∷ (1800030000 over 11250)
@@ -128,6 +144,9 @@ secondShifted =
     (25517190000 over 100800000)
     ∷ (13379962800 over 110160000)
     ∷ (1584015600 over 108000000)
+    ∷ (24581174400 over 100800000)
+    ∷ (12443947200 over 110160000)
+    ∷ (648000000 over 108000000)
     ∷ (15314305745397600000000000000000000 over 46656000000000000000000000000)
     ∷ []
 
@@ -178,11 +197,17 @@ slender W =
 abbrev pub edge : Sheet → Sheet → Edge
 edge meets breaks = record { meets = meets; breaks = breaks }
 
--- plate; self-anchored: wind, and earthquake where the cap limits the resistance and where the root does; anchored: wind, earthquake,
--- and spacing
-abbrev pub edges : List Edge
-edges =
-    edge (anchoredWith 254) (anchoredWith 252)
+-- plate, by API 650 one that would not do by D100
+abbrev pub plateEdge : Method → Edge
+plateEdge D100 = edge (anchoredWith 254) (anchoredWith 252)
+plateEdge Api650 = edge (source002With 250 200) (source002With 248 200)
+
+-- and, the same sheets by either method: floor; self-anchored: wind, and earthquake where the cap limits the resistance and where the root
+-- does; anchored: wind, earthquake, and spacing
+abbrev pub edges : Method → List Edge
+edges method =
+    plateEdge method
+    ∷ edge (source002With 188 0) (source002With 187 0)
     ∷ edge (selfAnchored 18350 30000) (selfAnchored 18340 30000)
     ∷ edge (selfAnchored 18352 188530) (selfAnchored 18352 188537)
     ∷ edge (rootLimited 48680805) (rootLimited 48680884)
@@ -191,7 +216,8 @@ edges =
     ∷ edge (exampleWith 105 30000 (sixOn 22918)) (exampleWith 105 30000 (sixOn 22919))
     ∷ []
 
-abbrev pub EachEdge : List Edge → Type 0
-EachEdge [] = Unit {0}
-EachEdge (e ∷ es) =
-    (MeetsWith (marginsOf (entriesOf (e .meets))) (entriesOf (e .meets)) × (MeetsWith noMargins (entriesOf (e .breaks)) → ⊥)) × EachEdge es
+abbrev pub EachEdge : Method → List Edge → Type 0
+EachEdge method [] = Unit {0}
+EachEdge method (e ∷ es) =
+    (MeetsWith method (marginsOf (entriesOf (e .meets))) (entriesOf (e .meets)) × (MeetsWith method noMargins (entriesOf (e .breaks)) → ⊥))
+    × EachEdge method es

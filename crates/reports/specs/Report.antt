@@ -1,4 +1,4 @@
--- The report on a sheet with tank, site and courses: document 01, "The rules".
+-- The report on a sheet with tank, site and courses, by a method for hoop need: document 01, "The rules"; document 02, S-3.
 use mathlib.Core.Bool.{Bool, cond, _&&_}
 use mathlib.Core.List.{List, [], _∷_}
 use Prim.Native.Nat.{ℕ, _+_}
@@ -12,6 +12,7 @@ use Rattle.rules.specs.Hoop.{requiredPlate, courseVerdict}
 use Rattle.rules.specs.Verdict.{holds, used}
 use Rattle.rules.specs.Words.{short-word, sound-word}
 use Rattle.stability.specs.declared.earthquake.Uplift.the-variants.{Over}
+use Rattle.rules.specs.declared.method.Method.{Method}
 use Rattle.rules.specs.declared.verdict.Verdict as Verdict
 use Rattle.entries.specs.Sheet.{heightOf}
 use Rattle.lists.specs.Each.{each}
@@ -32,17 +33,21 @@ use Rattle.reports.specs.declared.report.Word.the-variants.{Sound, Short
 use Rattle.reports.specs.declared.report.Report.{Report}
 use Rattle.reports.specs.declared.report.Checks.{Checks}
 
--- A course whose bottom edge is at y: its hoop need without the allowance, the required plate, its plate, and whether it holds.
-unfoldable pub lineOf : Tank → ℕ → Course → CourseLine
-lineOf tank y course =
-    let need = needOn tank y course in
+-- A course with this hoop need, which is without its allowance: the required plate, its plate, and whether it holds. Here is no method:
+-- "Floors and margins are shared".
+abbrev pub lineWith : ℕ → Tank → Course → CourseLine
+lineWith need tank course =
     let required = requiredPlate need (course .allowance) (tank .diameter) in
     record { need = need; required = required; plate = course .plate; verdict = courseVerdict required (course .plate) }
 
+-- a course whose bottom edge is at y, by a method
+unfoldable pub lineOf : Method → Tank → ℕ → Course → CourseLine
+lineOf method tank y course = lineWith (needOn method tank y course) tank course
+
 -- courses from the bottom up, the first one's bottom edge at y
-abbrev pub linesOf : Tank → ℕ → List Course → List CourseLine
-linesOf tank y [] = []
-linesOf tank y (course ∷ above) = lineOf tank y course ∷ linesOf tank (y + course .width) above
+abbrev pub linesOf : Method → Tank → ℕ → List Course → List CourseLine
+linesOf method tank y [] = []
+linesOf method tank y (course ∷ above) = lineOf method tank y course ∷ linesOf method tank (y + course .width) above
 
 -- N = 0: wind with the moment M, T, lift, and the earthquake check, which holds unless lift is over (`quake-stands`)
 unfoldable pub selfChecks : Tank → Site → ℕ → SelfChecks
@@ -120,10 +125,10 @@ blankReport =
       word = Short;
     }
 
-unfoldable pub reportOf : Tank → Site → Anchors → List Course → Report
-reportOf tank site anchors courses =
+unfoldable pub reportOf : Method → Tank → Site → Anchors → List Course → Report
+reportOf method tank site anchors courses =
     let M = momentOn tank site (heightOf courses) in
-    let lines = linesOf tank 0 courses in
+    let lines = linesOf method tank 0 courses in
     let standing = standingOf tank site anchors M in
     record {
       lines = padded blankLine lines;

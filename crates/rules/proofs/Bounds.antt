@@ -10,8 +10,10 @@ use Rattle.exact.specs.Sides.{Sides}
 use Rattle.exact.proofs.QuotientLaws.{up-least}
 use Rattle.fields.specs.Range.{In}
 use Rattle.rules.specs.Bounds.{mostHeight, mostMoment, mostNeed, mostPressure, mostRequired}
-use Rattle.rules.specs.Hoop.{headOf, hoopExact, hoopNeed, plateFloor, requiredPlate}
+use Rattle.rules.specs.Hoop.{headOf, designHead, hoopExact, hoopNeed, plateFloor, requiredPlate}
 use Rattle.rules.specs.Wind.{pressureOf, momentOf}
+use Rattle.rules.specs.declared.method.Method.{Method}
+use Rattle.rules.specs.declared.method.Method.the-variants.{D100, Api650}
 
 floor-most : (D : ℕ) → plateFloor D ≤ 313
 unfolding plateFloor
@@ -31,6 +33,11 @@ need-most h D s E a d b e =
 pub head-most : (H y : ℕ) → In 2 H → headOf H y ≤ mostHeight
 unfolding headOf
 head-most H y h = omega arith
+
+pub design-head-most : (m : Method) (h : ℕ) → h ≤ mostHeight → designHead m h ≤ mostHeight
+unfolding designHead
+design-head-most D100 h l = l
+design-head-most Api650 h l = omega arith
 
 pub required-most : (need c D : ℕ) → need ≤ mostNeed → In 17 c → requiredPlate need c D ≤ mostRequired
 unfolding requiredPlate

@@ -1,12 +1,27 @@
 -- The hoop need is on the safe side of its exact fraction and within its margin; a plate is at least the required one exactly when it
--- is at least the need with the allowance and at least the floor.
+-- is at least the need with the allowance and at least the floor. And what a method takes of h.
 -- Assumes nothing.
+use mathlib.Core.Path.{_≡_, refl}
 use Prim.Native.Nat.{ℕ, _+_, _≤_, _<_}
 use native.Mathlib.Nat.{mul-pos}
 use native.Mathlib.Omega.{arith}
 use Rattle.exact.specs.Quotient.{AtLeast}
 use Rattle.exact.proofs.QuotientLaws.{rounded-up}
-use Rattle.rules.specs.Hoop.{hoopExact, hoopNeed, plateMargin, plateFloor, requiredPlate}
+use Rattle.rules.specs.Hoop.{designHead, hoopExact, hoopNeed, plateMargin, plateFloor, requiredPlate}
+use Rattle.rules.specs.declared.method.Method.the-variants.{D100, Api650}
+
+-- what a method takes of h: D100 all of it; API 650 "(h - 1 ft)", and "zero when h is one foot or less"
+pub whole-head : (h : ℕ) → designHead D100 h ≡ h
+unfolding designHead
+whole-head h = refl
+
+pub foot-less : (h : ℕ) → designHead Api650 (h + 1200) ≡ h
+unfolding designHead
+foot-less h = omega arith
+
+pub first-foot : (h : ℕ) → h ≤ 1200 → designHead Api650 h ≡ 0
+unfolding designHead
+first-foot h l = omega arith
 
 -- the divisors are above 0
 pub hoop-den : (h D s E : ℕ) → 0 < s → 0 < E → 0 < hoopExact h D s E .den

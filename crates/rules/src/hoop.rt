@@ -3,8 +3,9 @@ ghost use mathlib.Core.Path.{_≡_};
 ghost use Prim.Native.Nat.{_≤_};
 ghost use Rattle.fields.specs.Range.{In};
 ghost use Rattle.rules.specs.Bounds.{mostHeight, mostNeed, mostRequired};
-ghost use Rattle.rules.specs.Hoop.{headOf, hoopNeed, plateFloor, requiredPlate, courseVerdict};
+ghost use Rattle.rules.specs.Hoop.{headOf, designHead, hoopNeed, plateFloor, requiredPlate, courseVerdict};
 ghost use Rattle.rules.specs.Verdict.{VerdictFor};
+use crate::method::Method;
 use crate::verdict::Verdict;
 use crate::verdict::verdict_of;
 
@@ -18,7 +19,20 @@ pub fn head(level: u32, edge: u32) -> u32
     level - edge
 }
 
-// The hoop need in mils, without the allowance.
+// A foot in hundredths of an inch.
+const FOOT: u32 = 1200;
+
+// What stands for h in a method's formula: by API 650 h less a foot, or 0.
+pub fn design_head(method: Method, h: u32) -> u32
+    ensures { λ r. ⌜ r ≡ designHead method h ⌝ }
+{
+    match method {
+        Method::D100 => h,
+        Method::Api650 => head(h, FOOT),
+    }
+}
+
+// The hoop need in mils, without the allowance; h as the method has it.
 pub fn need(h: u32, diameter: u32, stress: u32, efficiency: u32) -> u64
     requires { ⌜ h ≤ mostHeight ⌝ }
     requires { ⌜ In 1 diameter ⌝ }

@@ -10,6 +10,7 @@ use native.Mathlib.Omega.{arith}
 use lib.Dec.{T, eqb}
 use lib.ListN.{length}
 use mir.Facts.{and-yes}
+use borrow.Author.Tests.{eq-eqb}
 use Rattle.fields.specs.Refusal.{plain, codeOf}
 use Rattle.fields.specs.declared.refusal.Code.{Code}
 use Rattle.fields.specs.declared.refusal.Refusal.{Refusal}
@@ -143,26 +144,29 @@ read-exactly b r = go (firstOf (readOrder version1 b)) refl
 
 -- ---- REFUSAL 30: exactly where no run of steps leaves the sheet that is handed in
 
-abbrev pub other : Condition → Bool
-other c = not (eqb (codeOf (c .refusal) .number) 30)
+-- an order that does not have a refusal never answers it
+abbrev pub otherThan : Refusal → Condition → Bool
+otherThan r c = not (eqb (codeOf (c .refusal) .number) (codeOf r .number))
 
-never-thirty : (cs : List Condition) → T (each other cs) → firstOf cs ≡ Refused Unreachable → ⊥
-never-thirty [] h e = clash (sym e)
-never-thirty (c ∷ cs) h e = go (c .applies) (and-yes (other c) (each other cs) h) (never-thirty cs) e
+pub never-answered : (r : Refusal) (cs : List Condition) → T (each (otherThan r) cs) → firstOf cs ≡ Refused r → ⊥
+never-answered r [] h e = clash (sym e)
+never-answered r (c ∷ cs) h e = go (c .applies) (and-yes (otherThan r c) (each (otherThan r) cs) h) (never-answered r cs) e
   where
-    go : (b : Bool) → T (other c) × T (each other cs) → (T (each other cs) → firstOf cs ≡ Refused Unreachable → ⊥)
-        → cond b (Refused (c .refusal)) (firstOf cs) ≡ Refused Unreachable → ⊥
-    go true h f e = let k : c .refusal ≡ Unreachable = cc in subst (λ (r : Refusal). T (not (eqb (codeOf r .number) 30))) k (h .0)
+    go : (b : Bool) → T (otherThan r c) × T (each (otherThan r) cs) → (T (each (otherThan r) cs) → firstOf cs ≡ Refused r → ⊥)
+        → cond b (Refused (c .refusal)) (firstOf cs) ≡ Refused r → ⊥
+    go true h f e =
+        let k : c .refusal ≡ r = cc in
+        subst T (ap not (eq-eqb (codeOf r .number) (codeOf r .number) refl)) (subst (λ (q : Refusal). T (not (eqb (codeOf q .number) (codeOf r .number)))) k (h .0))
     go false h f e = f (h .1) e
 
-pub thirty-first : (s : Sheet) (cs : List Condition) → T (each other cs) → (firstOf (unreachable s ∷ cs) ≡ Refused Unreachable) ↔ (LeftByRun s → ⊥)
+pub thirty-first : (s : Sheet) (cs : List Condition) → T (each (otherThan Unreachable) cs) → (firstOf (unreachable s ∷ cs) ≡ Refused Unreachable) ↔ (LeftByRun s → ⊥)
 thirty-first s cs h = go (reachable s) refl
   where
     go : (b : Bool) → reachable s ≡ b → (cond (not b) (Refused Unreachable) (firstOf cs) ≡ Refused Unreachable) ↔ (LeftByRun s → ⊥)
-    go true e = ((λ f. absurd (never-thirty cs h f)), λ n. absurd (n (left-exactly s .0 (subst T (sym e) tt))))
+    go true e = ((λ f. absurd (never-answered Unreachable cs h f)), λ n. absurd (n (left-exactly s .0 (subst T (sym e) tt))))
     go false e = ((λ f l. subst T e (left-exactly s .1 l)), λ n. refl)
 
-step-others : (s : Sheet) (x : Step) → T (each other (orderOf s x))
+step-others : (s : Sheet) (x : Step) → T (each (otherThan Unreachable) (orderOf s x))
 unfolding tankFlaws siteFlaws anchorFlaws courseFlaws
 step-others s (stateTank t) = tt
 step-others s (stateSite x) = tt

@@ -28,7 +28,7 @@ use Rattle.entries.specs.declared.sheet.Sheet.{Sheet}
 use Rattle.entries.proofs.FieldLaws.{blank-flawed}
 use Rattle.parts.specs.Parts.{siteBlank, siteClear, anchorsBlank, anchorsClear}
 use Rattle.sheet.specs.Steps.{tankBlank, reachable}
-use Rattle.sheet.specs.Complete.{incomplete, completeOrder, entriesOf, coursesOf, noEntries, statusAs, statusOf, completedAs, completedOf, completedCode, codeWith, sheetCode, answerAs, Valid}
+use Rattle.sheet.specs.Complete.{incomplete, completeOrder, entriesOf, coursesOf, noEntries, statusAs, statusOf, completedAs, completedOf, completedCode, codeWith, sheetCode, orderAfter, Valid}
 use Rattle.sheet.specs.declared.complete.Entries.{Entries}
 use Rattle.sheet.specs.declared.complete.Completeness as Status
 use Rattle.sheet.specs.declared.complete.Completed.{Completed}
@@ -94,19 +94,19 @@ completed-status s = go (statusOf s)
 -- ---- an order that goes on from there: 30, the conditions between, 32, 35, 36, 38, and those after
 
 pub complete-first : (s : Sheet) (between after : List Condition)
-    → firstOf (completeOrder s between after) ≡ answerAs (statusOf s) (firstOf between) (firstOf after)
+    → firstOf (completeOrder s between after) ≡ firstOf (orderAfter (statusOf s) between after)
 unfolding statusOf
 complete-first s between after =
     go (reachable s) (firstOf (incomplete s))
     (first-then between (incomplete s ++ after) ∙ ap (λ (a : Answer). andThen (firstOf between) a) (first-then (incomplete s) after))
   where
-    then-as : (a : Answer) → andThen (firstOf between) (andThen a (firstOf after)) ≡ answerAs (statusAs a) (firstOf between) (firstOf after)
-    then-as Accepted = refl
-    then-as (Refused r) = refl
+    then-as : (a : Answer) → andThen (firstOf between) (andThen a (firstOf after)) ≡ firstOf (orderAfter (statusAs a) between after)
+    then-as Accepted = sym (first-then between after)
+    then-as (Refused r) = sym (first-then between ((r when true) ∷ []))
 
     go : (b : Bool) (a : Answer) → firstOf (between ++ (incomplete s ++ after)) ≡ andThen (firstOf between) (andThen a (firstOf after))
         → cond (not b) (Refused Unreachable) (firstOf (between ++ (incomplete s ++ after)))
-        ≡ answerAs (cond b (statusAs a) Status.the-variants.Unreachable) (firstOf between) (firstOf after)
+        ≡ firstOf (orderAfter (cond b (statusAs a) Status.the-variants.Unreachable) between after)
     go true a e = e ∙ then-as a
     go false a e = refl
 
@@ -197,7 +197,7 @@ module _ (s : Sheet) {y : Completed} (e : y ≡ completedOf s) where
 -- ---- the clauses of the contract
 
 code-of : (t : Status.Completeness) (e : Entries)
-    → completedCode (completedAs t e) ≡ codeWith (answerCode (answerAs t Accepted Accepted)) e
+    → completedCode (completedAs t e) ≡ codeWith (answerCode (firstOf (orderAfter t [] []))) e
 code-of Status.the-variants.Unreachable e = refl
 code-of (Status.the-variants.Refused r) e = rw (never-zero r)
 code-of Status.the-variants.Complete e = refl

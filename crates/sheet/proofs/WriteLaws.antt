@@ -11,12 +11,12 @@ use Rattle.fields.specs.declared.refusal.Refusal.{Refusal}
 use Rattle.fields.specs.declared.refusal.Refusal.the-variants.{Unreachable, BufferTooShort}
 use Rattle.fields.specs.Order.{firstOf}
 use Rattle.fields.specs.declared.answer.Answer.{Answer}
-use Rattle.fields.specs.declared.answer.Answer.the-variants.{Accepted, Refused}
+use Rattle.fields.specs.declared.answer.Answer.the-variants.{Refused}
 use Rattle.entries.specs.declared.sheet.Sheet.{Sheet}
 use Rattle.layout.specs.Numbers.{fours}
 use Rattle.layout.specs.Layout.{version1, wholeLength, prefixOf, tailHead, coursesFigures, layout}
 use Rattle.layout.proofs.LayoutLaws.{whole-of-one, layout-stored}
-use Rattle.sheet.specs.Complete.{entriesOf, coursesOf, statusOf, answerAs, Valid}
+use Rattle.sheet.specs.Complete.{entriesOf, coursesOf, statusOf, orderAfter, Valid}
 use Rattle.sheet.specs.Writing.{bytesOf, sizeOf, noRoom, WriteReply, writeReply, written, writtenEntries}
 use Rattle.sheet.specs.declared.complete.Entries.{Entries}
 use Rattle.sheet.specs.declared.complete.Completeness as Status
@@ -29,7 +29,7 @@ denied r buf = record { answer = Written.the-variants.Refused r; buffer = buf }
 -- ---- by the answer to what is asked first
 
 module _ (s : Sheet) (buf : List ℕ) where
-  by-status : written s buf ≡ writeReply (answerAs (statusOf s) Accepted (firstOf (noRoom (entriesOf s) (length buf) ∷ []))) (entriesOf s) buf
+  by-status : written s buf ≡ writeReply (firstOf (orderAfter (statusOf s) [] (noRoom (entriesOf s) (length buf) ∷ []))) (entriesOf s) buf
   unfolding written
   by-status =
       ap (λ (a : Answer). writeReply a (entriesOf s) buf) (complete-first s [] (noRoom (entriesOf s) (length buf) ∷ []))

@@ -1,7 +1,7 @@
 -- What judging and writing ask of a sheet first, and what a complete one holds: document 01, "Filling in" ("A sheet is complete when it has a
 -- tank, a site and a course") and "Order", with S-1 of document 02 ("A sheet is complete only when its anchors are stated too").
 use mathlib.Core.Path.{_≡_}
-use mathlib.Core.Bool.{cond}
+use mathlib.Core.Bool.{true, cond}
 use mathlib.Core.List.{List, [], _∷_, _++_}
 use Prim.Native.Nat.{_≤_}
 use lib.Dec.{T, eqb}
@@ -9,7 +9,7 @@ use lib.ListN.{length, take, replicate}
 use Rattle.fields.specs.Refusal.{plain, codeOf}
 use Rattle.fields.specs.declared.refusal.Code.{Code}
 use Rattle.fields.specs.declared.refusal.Refusal.the-variants.{Unreachable, NoTank, NoCourse, NoSite, AnchorsUnstated}
-use Rattle.fields.specs.Order.{Condition, _when_, firstOf, andThen, clear, firstCode}
+use Rattle.fields.specs.Order.{Condition, _when_, firstOf, clear, firstCode}
 use Rattle.fields.specs.declared.answer.Answer.{Answer}
 use Rattle.fields.specs.declared.answer.Answer.the-variants.{Accepted, Refused}
 use Rattle.entries.specs.Sheet.{blankCourse, held, heightOf, tankOf, siteOf, anchorsOf, tankFlaws, siteFlaws, anchorFlaws}
@@ -33,8 +33,7 @@ incomplete s =
     ∷ (AnchorsUnstated when anchorsBlank (s .anchors))
     ∷ []
 
--- An order that goes on from these. `between` is what stands between 30 and 32 (nothing today; S-3 of document 02 has judging refuse there), `after` what
--- follows.
+-- An order that goes on from these. `between` is what stands between 30 and 32 (in judging 42: document 02, S-3), `after` what follows.
 abbrev pub completeOrder : Sheet → List Condition → List Condition → List Condition
 completeOrder s between after = unreachable s ∷ (between ++ (incomplete s ++ after))
 
@@ -100,11 +99,11 @@ codeWith p e = record { code = p; entries = cond (eqb (p .number) 0) e noEntries
 unfoldable pub sheetCode : Sheet → CompletedCode
 sheetCode s = codeWith (firstCode (completeOrder s [] [])) (entriesOf s)
 
--- what an order that goes on from here answers (`complete-first`)
-abbrev pub answerAs : Status.Completeness → Answer → Answer → Answer
-answerAs Status.the-variants.Unreachable between after = Refused Unreachable
-answerAs (Status.the-variants.Refused r) between after = andThen between (Refused r)
-answerAs Status.the-variants.Complete between after = andThen between after
+-- what is left of such an order once this is answered (`complete-first`: it comes to the same)
+abbrev pub orderAfter : Status.Completeness → List Condition → List Condition → List Condition
+orderAfter Status.the-variants.Unreachable between after = (Unreachable when true) ∷ []
+orderAfter (Status.the-variants.Refused r) between after = between ++ (r when true) ∷ []
+orderAfter Status.the-variants.Complete between after = between ++ after
 
 -- What steps leave in a complete sheet: no entry has a flaw, there is a course, and the shell is not too high.
 pub record Valid (e : Entries) : Type 0 where

@@ -16,7 +16,7 @@ pub struct Entries {
     pub height: u32,
 }
 
-// 30 stands apart from the other refusals, since S-3 of document 02 has judging refuse between it and 32.
+// 30 stands apart from the other refusals, since judging refuses 42 between it and 32 (document 02, S-3).
 pub enum Completeness {
     Unreachable,
     Refused(Refusal),

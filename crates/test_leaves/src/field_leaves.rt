@@ -36,6 +36,7 @@ fn refusal(place: u64, field: u32) -> Refusal {
         16 => Refusal::WaterAboveShell,
         17 => Refusal::AnchorsUnstated,
         18 => Refusal::FigureOutOfRange,
-        _ => Refusal::BadSiteClass,
+        19 => Refusal::BadSiteClass,
+        _ => Refusal::BadMethod,
     }
 }

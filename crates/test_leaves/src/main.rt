@@ -4,6 +4,7 @@
 mod clamp;
 mod exact_leaves;
 mod field_leaves;
+mod method_leaves;
 mod print;
 mod question_leaves;
 mod rule_leaves;
@@ -57,7 +58,11 @@ fn answer(leaf: u64, a: u64, b: u64, c: u64, d: u64) {
         rule_leaves::answer(leaf, a, b, c, d);
         return;
     }
-    question_leaves::answer(leaf, a, b, c);
+    if leaf < 50 {
+        question_leaves::answer(leaf, a, b, c);
+        return;
+    }
+    method_leaves::answer(leaf, a, b);
 }
 
 // The digits from `from` on, and the byte that ends them.

@@ -1,4 +1,4 @@
-// The leaves of `rules` and `stability`, numbered from 20.
+// The leaves of `rules` and `stability`, numbered from 20; those that take a method are in `method_leaves`.
 use crate::clamp::field;
 use crate::clamp::figure;
 use crate::exact_leaves::signed;

@@ -19,6 +19,9 @@ use sheet::steps::Reply;
 // More records than any file has, so that the program ends.
 const MOST_RECORDS: usize = 100000;
 
+// Of a sheet that is built by hand; where it is judged, the method's number follows them.
+const SHEET_FIGURES: usize = 78;
+
 fn main() {
     let mut held = Sheet::empty();
     let mut n: usize = 0;
@@ -58,8 +61,14 @@ fn answer(held: Sheet, code: u8, payload: &[u8]) -> Sheet {
         6 => replied(reading::read(payload)),
         7 => shown(figures::sheet(payload)),
         8 => judged(held, marking::judge_bytes(payload)),
-        9 => judged(held, judging::judge(figures::sheet(payload))),
-        _ => judged(held, judging::judge(held)),
+        9 => judged(
+            held,
+            judging::judge(
+                figures::figure(payload, SHEET_FIGURES),
+                figures::sheet(payload),
+            ),
+        ),
+        _ => judged(held, judging::judge(figures::figure(payload, 0), held)),
     }
 }
 

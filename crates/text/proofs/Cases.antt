@@ -9,7 +9,8 @@ use Rattle.fields.specs.Range.{within, between}
 use Rattle.fields.specs.declared.refusal.Refusal.{Refusal}
 use Rattle.stability.specs.Anchors.{pullExact, pullOf, spacingVerdict, strengthVerdict, windVerdict, largerPull}
 use Rattle.stability.specs.Earthquake.{shellExact, shellWeight, rootMost, bottomRoot, capExact, bottomCap, bottomWeight, resistanceOf, upliftOf, quakeVerdict}
-use Rattle.rules.specs.Hoop.{headOf, hoopExact, hoopNeed, plateFloor, requiredPlate, courseVerdict}
+use Rattle.rules.specs.Hoop.{headOf, designHead, hoopExact, hoopNeed, plateFloor, requiredPlate, courseVerdict}
+use Rattle.rules.specs.Method.{isMethod, methodOf}
 use Rattle.rules.specs.Verdict.{verdictOf}
 use Rattle.rules.specs.Wind.{pressureExact, pressureOf, momentExact, momentOf}
 use Rattle.fields.specs.Order.{clear}
@@ -31,7 +32,7 @@ use Rattle.text.specs.Marking.{markedText}
 use Rattle.text.specs.Cases.{PrintedCase, printedCases, refusals, refusalTexts}
 
 pub printed-cases : map (λ (c : PrintedCase). markedText (c .bytes)) printedCases ≡ map (λ (c : PrintedCase). c .text) printedCases
-unfolding upOf upℤ tried lowBits rootOf inChart stressArea within between pullExact pullOf largerPull spacingVerdict strengthVerdict windVerdict shellExact shellWeight rootMost bottomRoot capExact bottomCap bottomWeight resistanceOf upliftOf quakeVerdict headOf hoopExact hoopNeed plateFloor requiredPlate courseVerdict verdictOf pressureExact pressureOf momentExact momentOf clear fourIn prefixOf tailHead bytesOf stepsIn isLength readIn badAnchors tankFlaws siteFlaws anchorFlaws courseFlaws applied coursesClear coursesBlank slotsReachable reachable resistanceOn lineOf selfChecks anchorChecks standingOf coursesHold wordOf reportOf judged marked decimal textOf markedText
+unfolding upOf upℤ tried lowBits rootOf inChart stressArea within between pullExact pullOf largerPull spacingVerdict strengthVerdict windVerdict shellExact shellWeight rootMost bottomRoot capExact bottomCap bottomWeight resistanceOf upliftOf quakeVerdict headOf designHead hoopExact hoopNeed isMethod methodOf plateFloor requiredPlate courseVerdict verdictOf pressureExact pressureOf momentExact momentOf clear fourIn prefixOf tailHead bytesOf stepsIn isLength readIn badAnchors tankFlaws siteFlaws anchorFlaws courseFlaws applied coursesClear coursesBlank slotsReachable reachable resistanceOn lineOf selfChecks anchorChecks standingOf coursesHold wordOf reportOf judged marked decimal textOf markedText
 printed-cases = refl
 
 pub refusal-texts : map (λ (r : Refusal). textOf (refusedFor r)) refusals ≡ refusalTexts

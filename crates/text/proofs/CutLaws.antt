@@ -13,6 +13,8 @@ use Rattle.fields.specs.declared.refusal.Refusal.the-variants.{TooManyBytes, Ba
 use Rattle.fields.specs.Order.{firstOf}
 use Rattle.fields.specs.declared.answer.Answer.{Answer}
 use Rattle.fields.specs.declared.answer.Answer.the-variants.{Refused}
+use Rattle.rules.specs.Method.{methodNumber}
+use Rattle.rules.specs.declared.method.Method.the-variants.{D100}
 use Rattle.entries.specs.Sheet.{emptySheet}
 use Rattle.layout.specs.Numbers.{twoIn}
 use Rattle.layout.specs.Layout.{version1}
@@ -41,7 +43,7 @@ answered b h = go (isLength version1 (twoIn b)) refl
 too-long : (b : List ℕ) → mostBytes ≤ length b → marked b ≡ refusedFor (tooLong (twoIn b))
 unfolding readIn marked
 too-long b h =
-    ap (λ (a : Answer). unlessRefused (unless a (inTurn emptySheet (stepsIn version1 b)) .answer) (judged (readIn b .sheet))) (answered b h)
+    ap (λ (a : Answer). unlessRefused (unless a (inTurn emptySheet (stepsIn version1 b)) .answer) (judged (methodNumber D100) (readIn b .sheet))) (answered b h)
 
 pub cut-same : (b : List ℕ) → mostBytes ≤ length b → markedText (take mostBytes b) ≡ markedText b
 unfolding markedText

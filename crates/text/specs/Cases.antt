@@ -2,7 +2,7 @@
 use mathlib.Core.List.{List, [], _∷_, _++_}
 use Prim.Native.Nat.{ℕ}
 use Rattle.fields.specs.declared.refusal.Refusal.{Refusal}
-use Rattle.fields.specs.declared.refusal.Refusal.the-variants.{TooFewBytes, TooManyBytes, BadLength, BadVersion, BadCount, OutOfRange, AllowanceNotBelowPlate, BadAnchors, BufferTooShort, Unreachable, TankStated, NoTank, CoursesFull, ShellTooHigh, NoCourse, NoSite, WaterAboveShell, AnchorsUnstated, FigureOutOfRange, BadSiteClass}
+use Rattle.fields.specs.declared.refusal.Refusal.the-variants.{TooFewBytes, TooManyBytes, BadLength, BadVersion, BadCount, OutOfRange, AllowanceNotBelowPlate, BadAnchors, BufferTooShort, Unreachable, TankStated, NoTank, CoursesFull, ShellTooHigh, NoCourse, NoSite, WaterAboveShell, AnchorsUnstated, FigureOutOfRange, BadSiteClass, BadMethod}
 use Rattle.lists.specs.Ascii.{ascii}
 use Rattle.entries.specs.Sheet.{noAnchors}
 use Rattle.entries.specs.declared.sheet.Sheet.{Sheet}
@@ -57,6 +57,7 @@ refusals =
     ∷ AnchorsUnstated
     ∷ FigureOutOfRange
     ∷ BadSiteClass
+    ∷ BadMethod
     ∷ []
 
 abbrev pub refusalTexts : List (List ℕ)
@@ -82,4 +83,5 @@ refusalTexts =
     ∷ ascii "refused 38\n"
     ∷ ascii "refused 40\n"
     ∷ ascii "refused 41\n"
+    ∷ ascii "refused 42\n"
     ∷ []

@@ -2,6 +2,7 @@
 ghost use mathlib.Core.Path.{_≡_};
 ghost use Prim.Native.Nat.{_≤_};
 ghost use lib.ListN.{length};
+ghost use Rattle.rules.specs.declared.method.Method.the-variants.{D100};
 ghost use Rattle.sheet.specs.Complete.{entriesOf};
 ghost use Rattle.sheet.specs.Reading.{readIn};
 ghost use Rattle.lines.specs.Justified.{TextJustified};
@@ -21,13 +22,13 @@ pub fn most_bytes() -> usize
     MOST_BYTES
 }
 
-// Reads the sheet that these bytes hold, judges it, and fills the first bytes of the buffer with the text.
+// Reads the sheet that these bytes hold, judges it by D100, and fills the first bytes of the buffer with the text.
 pub fn mark(bytes: &[u8], out: &mut [u8]) -> Printed
     ensures { λ r. ⌜ r ≡ printed (markedText (now (bytes .entry))) (now (out .entry)) .answer ⌝ }
     ensures { λ r. ⌜ now (out .exit) ≡ printed (markedText (now (bytes .entry))) (now (out .entry)) .buffer ⌝ }
     ensures { λ r. ⌜ sizesOf r ≡ printedSizes (markedText (now (bytes .entry))) (length (now (out .entry))) ⌝ }
     ensures { λ r. ⌜ length (markedText (now (bytes .entry))) ≤ mostText ⌝ }
-    ensures { λ r. ⌜ TextJustified (entriesOf (readIn (now (bytes .entry)) .sheet)) (marked (now (bytes .entry))) ⌝ }
+    ensures { λ r. ⌜ TextJustified D100 (entriesOf (readIn (now (bytes .entry)) .sheet)) (marked (now (bytes .entry))) ⌝ }
 {
     let judgement = marking::judge_bytes(bytes);
     printing::print(judgement, out)

@@ -52,11 +52,12 @@ word-requires c κs = search needs
 returns : tie.Need-returns
 unfolding reportOf
 returns c = let s = c .before .before .before .before .before .before .before .before .before .before in
+    let m = s .args .method in
     let e = s .args .e in
     let l = c .before .before .before .lines .ensures in
     let long : length (coursesOf e) ≡ e .count = courses-length e (s .pre) in
-    let few : length (linesOf (e .tank) 0 (coursesOf e)) ≡ e .count = lines-length (e .tank) 0 (coursesOf e) ∙ long in
-    rw (c .word .ensures, c .before .uses .ensures, c .before .before .standing .ensures, l, take-padded blankLine (linesOf (e .tank) 0 (coursesOf e)) (e .count) few, long, c .before .before .before .before .moment .ensures, c .before .before .before .before .before .pressure .ensures, s .pre .high)
+    let few : length (linesOf m (e .tank) 0 (coursesOf e)) ≡ e .count = lines-length m (e .tank) 0 (coursesOf e) ∙ long in
+    rw (c .word .ensures, c .before .uses .ensures, c .before .before .standing .ensures, l, take-padded blankLine (linesOf m (e .tank) 0 (coursesOf e)) (e .count) few, long, c .before .before .before .before .moment .ensures, c .before .before .before .before .before .pressure .ensures, s .pre .high)
 
 pub report-spec : {M : Type 1} → statement M
 report-spec =

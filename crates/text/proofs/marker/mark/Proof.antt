@@ -17,7 +17,7 @@ same-length c = search needs
 returns : tie.Need-returns
 unfolding markedText
 returns c = let p = c .before .before .print .ensures in
-    rw (← c .before .before .before .before .judge-bytes .ensures .0) (p .0, (p .1 .0, (p .1 .1 .0, (p .1 .1 .1, text-justified _ _ (c .before .before .before .before .judge-bytes .ensures .1 .1)))))
+    rw (← c .before .before .before .before .judge-bytes .ensures .0) (p .0, (p .1 .0, (p .1 .1 .0, (p .1 .1 .1, text-justified _ _ _ (c .before .before .before .before .judge-bytes .ensures .1 .1)))))
 
 pub mark-spec : {M : Type 1} → statement M
 mark-spec = tie.close (tie.spec judge-bytes-requires print-requires same-length returns)
