@@ -15,14 +15,13 @@ use Rattle.rules.specs.Wind.{pressureOf, momentOf}
 use Rattle.rules.specs.declared.method.Method.{Method}
 use Rattle.rules.specs.declared.method.Method.the-variants.{D100, Api650}
 
+cond-most : (b : Bool) {x y most : ℕ} → x ≤ most → y ≤ most → cond b x y ≤ most
+cond-most true p q = p
+cond-most false p q = q
+
 floor-most : (D : ℕ) → plateFloor D ≤ 313
 unfolding plateFloor
-floor-most D = go (leb D 60000) (leb D 144000)
-  where
-    go : (a b : Bool) → cond a 188 (cond b 250 313) ≤ 313
-    go true b = omega arith
-    go false true = omega arith
-    go false false = omega arith
+floor-most D = cond-most (leb D 60000) (omega arith) (cond-most (leb D 144000) (omega arith) (omega arith))
 
 pub need-most : (h D s E : ℕ) → h ≤ mostHeight → In 1 D → In 18 s → In 19 E → hoopNeed h D s E ≤ mostNeed
 unfolding hoopNeed hoopExact

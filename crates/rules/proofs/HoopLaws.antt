@@ -1,6 +1,7 @@
 -- The hoop need is on the safe side of its exact fraction and within its margin; a plate is at least the required one exactly when it
 -- is at least the need with the allowance and at least the floor. And what a method takes of h.
 -- Assumes nothing.
+use mathlib.Core.List.{[], _∷_, map}
 use mathlib.Core.Path.{_≡_, refl}
 use Prim.Native.Nat.{ℕ, _+_, _≤_, _<_}
 use native.Mathlib.Nat.{mul-pos}
@@ -35,6 +36,11 @@ plate-margin-den = omega arith
 pub hoop-rounded : (h D s E : ℕ) → 0 < s → 0 < E → AtLeast (hoopExact h D s E) plateMargin (hoopNeed h D s E)
 unfolding hoopExact hoopNeed plateMargin
 hoop-rounded h D s E p q = rounded-up (hoopExact h D s E) (hoop-den h D s E p q)
+
+-- the floor as document 01 has it, at either side of each step
+pub floors-printed : map plateFloor (60000 ∷ 60001 ∷ 144000 ∷ 144001 ∷ []) ≡ 188 ∷ 250 ∷ 250 ∷ 313 ∷ []
+unfolding plateFloor
+floors-printed = refl
 
 pub required-meets : (need c D t : ℕ) → requiredPlate need c D ≤ t → (need + c ≤ t) × (plateFloor D ≤ t)
 unfolding requiredPlate
