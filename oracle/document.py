@@ -1,6 +1,6 @@
 """Document 01 ("Flat-bottom steel water tanks: the check sheet") as data and rules.
 
-Written from the document alone, with requests S-1 and S-3 of document 02 and the refusals
+Written from the document alone, with requests S-1, S-3 and S-4 of document 02 and the refusals
 of S-2, whose rules are ground.py's. Every figure is first an exact Fraction, then rounded
 as the document says. Letters (D, H, W, ...) are the document's; lengths are hundredths
 of an inch, plates mils, weights pounds, moments foot-pounds.
@@ -117,6 +117,11 @@ def course_refusal(tank_stated, courses_held, shell_height, course):
 
 def method_refusal(method):
     return None if method in METHODS else (42, 0)
+
+
+def standard_site_refusal(V):
+    """16 with field 7 for a speed outside 60 to 150 mph, or None."""
+    return range_refusal((WIND_FIELD,), (V,))
 
 
 def judge_refusal(method, tank_stated, courses_held, site_stated, anchors_stated, H,
@@ -242,7 +247,7 @@ def course_verdict(required, t):
     return verdict(required, t)
 
 
-# --- "The rules": wind --------------------------------------------------------
+# --- "The rules": wind; request S-4 -------------------------------------------
 
 LEAST_PRESSURE = 1_800
 STANDARD_KZ = 109
@@ -254,10 +259,9 @@ def wind_pressure(Kz, I, V):
     return max(ceil(Fraction(6 * Kz * I * V * V, 390_625)), LEAST_PRESSURE)
 
 
-def standard_site_chart():
-    """Speed to pressure on the standard site, 60 to 150 mph."""
-    least, greatest = FIELD_RANGES[WIND_FIELD]
-    return {V: wind_pressure(STANDARD_KZ, STANDARD_I, V) for V in range(least, greatest + 1)}
+def standard_site_pressure(V):
+    """p on the standard site, of a speed that is not refused."""
+    return wind_pressure(STANDARD_KZ, STANDARD_I, V)
 
 
 def wind_moment(p, D, Hs):
@@ -363,9 +367,9 @@ def self_test():
     assert (p, M) == (2_123, 73_371)
     assert wind_pressure(Kz, I, 96) == 1_800
     assert wind_pressure(Kz, I, 97) == 1_812
-    chart = standard_site_chart()
-    assert len(chart) == 91
-    assert (chart[96], chart[97], chart[105]) == (1_800, 1_812, 2_123)
+    assert [standard_site_pressure(speed) for speed in (96, 97, 105)] == [1_800, 1_812, 2_123]
+    for speed, refusal in ((59, (16, 7)), (60, None), (150, None), (151, (16, 7))):
+        assert standard_site_refusal(speed) == refusal
 
     # pull and anchor lines
     pulls = (net_pull(M, W, B, N), net_pull(Ms, W, B, N))

@@ -95,10 +95,10 @@ def refusal_text(number, field):
 
 
 def standard_site_text(speed):
-    chart = doc.standard_site_chart()
-    if speed not in chart:
-        return refusal_text(doc.FIELD_REFUSAL, doc.WIND_FIELD)
-    return decimal(chart[speed])
+    refusal = doc.standard_site_refusal(speed)
+    if refusal is not None:
+        return refusal_text(*refusal)
+    return decimal(doc.standard_site_pressure(speed))
 
 
 def hoop_head_text(method, h):

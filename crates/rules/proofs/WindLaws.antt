@@ -2,16 +2,15 @@
 -- document 01's numbers.
 -- Assumes nothing.
 use mathlib.Core.Path.{_≡_, refl}
-use mathlib.Core.Bool.{Bool, true, false, cond}
+use mathlib.Core.Bool.{Bool, true, false}
+use mathlib.Core.List.{[], _∷_, map}
 use Prim.Native.Nat.{ℕ, _+_, _*_, _≤_, _<_}
 use native.Mathlib.Nat.{mul-le-mul-right}
 use native.Mathlib.Omega.{arith}
 use Rattle.exact.specs.Quotient.{AtLeast, whole, upOf}
 use Rattle.exact.proofs.QuotientLaws.{up-safe, up-near}
-use Rattle.fields.specs.Range.{range, within}
-use Rattle.fields.specs.declared.refusal.Refusal.the-variants.{OutOfRange}
-use Rattle.rules.specs.declared.wind.SitePressure.the-variants.{Given, Refused}
-use Rattle.rules.specs.Wind.{pressureExact, pressureOf, momentExact, momentOf, momentMargin, standardSite, standardCode, siteCode, siteCodeOf}
+use Rattle.fields.specs.Range.{range, between, within}
+use Rattle.rules.specs.Wind.{pressureExact, pressureOf, momentExact, momentOf, momentMargin, standardSite, standardCode, siteCodeOf}
 
 pub pressure-rounded : (Kz I v : ℕ) → AtLeast (pressureExact Kz I v) (whole 1) (pressureOf Kz I v)
 unfolding pressureExact pressureOf
@@ -64,8 +63,18 @@ moment-margin-den D Hs = omega arith
 -- what the standard site's answer says: the pressure, or refusal 16 with field 7
 pub standard-code : (v : ℕ) → siteCodeOf (standardSite v) ≡ standardCode v
 unfolding standardSite standardCode
-standard-code v = go (within (range 7) v)
+standard-code v = go (within (range 7) v) refl
   where
-    go : (b : Bool) → siteCodeOf (cond b (Given (pressureOf 109 115 v)) (Refused (OutOfRange 7))) ≡ cond b (siteCode 0 (pressureOf 109 115 v)) (siteCode 16 7)
-    go true = refl
-    go false = refl
+    go : (b : Bool) → within (range 7) v ≡ b → siteCodeOf (standardSite v) ≡ standardCode v
+    go true e = rw e
+    go false e = rw e
+
+-- the number and the value of the standard site's answer to a speed
+abbrev answered : ℕ → ℕ × ℕ
+answered v = (standardCode v .number, standardCode v .value)
+
+-- at each end of its speeds and one past it, and where document 01 prints a pressure
+pub standard-site-printed : map answered (59 ∷ 60 ∷ 96 ∷ 97 ∷ 105 ∷ 150 ∷ 151 ∷ [])
+    ≡ (16, 7) ∷ (0, 1800) ∷ (0, 1800) ∷ (0, 1812) ∷ (0, 2123) ∷ (0, 4333) ∷ (16, 7) ∷ []
+unfolding standardCode pressureOf upOf within between
+standard-site-printed = refl
