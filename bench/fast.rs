@@ -142,7 +142,8 @@ fn report(bytes: &[u8], mut at: Place) -> Result<Place, Refusal> {
         sound &= wind && lift != "over";
     } else {
         let (n, b) = (anchors[0] as u64, anchors[1] as u64);
-        let (wind, quake) = (rules::pull(m, w, b, n), rules::pull(ms, w, b, n));
+        let wind = rules::pull(m, rules::whole_weight(w), b, n);
+        let quake = rules::pull(ms, rules::reduced_weight(w, av), b, n);
         let (spacing, strength) = (rules::spacing(b, n), rules::strength(wind.max(quake), anchors[2]));
         at = word(at, b"\npull");
         at = signed(at, wind);

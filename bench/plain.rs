@@ -98,7 +98,8 @@ fn judge(sheet: &Sheet) -> Result<Report, Refusal> {
         let resistance = rules::resistance(d, w, av, plate - allowance, fy, h);
         Standing::SelfAnchored { wind: rules::self_wind(moment, w, d), resistance, lift: rules::lift(ms, resistance) }
     } else {
-        let (wind, quake) = (rules::pull(moment, w, b, n), rules::pull(ms, w, b, n));
+        let wind = rules::pull(moment, rules::whole_weight(w), b, n);
+        let quake = rules::pull(ms, rules::reduced_weight(w, av), b, n);
         let strength = rules::strength(wind.max(quake), sheet.anchors[2]);
         Standing::Anchored { wind, quake, spacing: rules::spacing(b, n), strength }
     };

@@ -1,4 +1,5 @@
-//! The rules of document 01, for both programs: ranges, what a step's figures are refused for, and the figures of a report.
+//! The rules of document 01, with S-5 of document 02, for both programs: ranges, what a step's figures are refused for, and
+//! the figures of a report.
 
 /// The ends of each field's range, by the field's number; 0 is no field.
 pub const RANGES: [(u32, u32); 20] = [
@@ -96,9 +97,19 @@ pub fn lift(ms: u64, t: u64) -> &'static str {
     if 1_000 * ms <= 785 * t { "none" } else if 1_000 * ms <= 1_540 * t { "lift" } else { "over" }
 }
 
-/// Rounded toward the greater number.
-pub fn pull(moment: u64, w: u64, b: u64, n: u64) -> i64 {
-    -((w * b) as i64 - (4_800 * moment) as i64).div_euclid((n * b) as i64)
+/// The weight that resists uplift in the wind, as a numerator and a divisor.
+pub fn whole_weight(w: u64) -> (u64, u64) {
+    (w, 1)
+}
+
+/// And in an earthquake.
+pub fn reduced_weight(w: u64, av: u64) -> (u64, u64) {
+    (w * (10_000 - 4 * av), 10_000)
+}
+
+/// Rounded once, toward the greater number.
+pub fn pull(moment: u64, (num, den): (u64, u64), b: u64, n: u64) -> i64 {
+    -((num * b) as i64 - (4_800 * moment * den) as i64).div_euclid((den * n * b) as i64)
 }
 
 pub fn spacing(b: u64, n: u64) -> bool {

@@ -1,7 +1,7 @@
 """Document 01 ("Flat-bottom steel water tanks: the check sheet") as data and rules.
 
-Written from the document alone, with requests S-1, S-3 and S-4 of document 02 and the refusals
-of S-2, whose rules are ground.py's. Every figure is first an exact Fraction, then rounded
+Written from the document alone, with requests S-1, S-3, S-4 and S-5 of document 02 and the
+refusals of S-2, whose rules are ground.py's. Every figure is first an exact Fraction, then rounded
 as the document says. Letters (D, H, W, ...) are the document's; lengths are hundredths
 of an inch, plates mils, weights pounds, moments foot-pounds.
 """
@@ -312,7 +312,7 @@ def self_earthquake_verdict(Ms, T):
     return Verdict(uplift(Ms, T) != "over", use_bits(1_000 * Ms, 1_540 * T))
 
 
-# --- "The rules": anchored ----------------------------------------------------
+# --- "The rules": anchored; request S-5 ---------------------------------------
 
 BOLT_CHART = {  # d in eighths of an inch to A in thousandths of a square inch
     6: 334, 7: 462, 8: 606, 9: 763, 10: 969, 11: 1155, 12: 1405, 14: 1900, 16: 2500,
@@ -324,9 +324,15 @@ def bolt_area(d):
     return BOLT_CHART.get(d, 0)
 
 
-def net_pull(overturning_moment, W, B, N):
-    """Per anchor, up positive, rounded toward the greater number."""
-    return ceil(Fraction(4_800 * overturning_moment - W * B, N * B))
+def weight_in_earthquake(W, Av):
+    """What is left of W on the anchors, in pounds; S-5 rounds once, in the pull."""
+    return Fraction(W * (10_000 - 4 * Av), 10_000)
+
+
+def net_pull(overturning_moment, weight, B, N):
+    """Per anchor, up positive, rounded toward the greater number. The weight is W for the wind;
+    for the earthquake it may be a fraction."""
+    return ceil(Fraction(4_800 * overturning_moment - weight * B, N * B))
 
 
 def larger_pull(wind_pull, earthquake_pull):
@@ -371,9 +377,12 @@ def self_test():
     for speed, refusal in ((59, (16, 7)), (60, None), (150, None), (151, (16, 7))):
         assert standard_site_refusal(speed) == refusal
 
-    # pull and anchor lines
-    pulls = (net_pull(M, W, B, N), net_pull(Ms, W, B, N))
-    assert pulls == (2_133, -211)
+    # pull and anchor lines; S-5: "second pull goes from -211 to -191"
+    left = weight_in_earthquake(W, Av)
+    assert left == Fraction("10881.2") and weight_in_earthquake(W, 0) == W
+    pulls = (net_pull(M, W, B, N), net_pull(Ms, left, B, N))
+    assert pulls == (2_133, -191)
+    assert net_pull(Ms, weight_in_earthquake(W, 0), B, N) == net_pull(Ms, W, B, N) == -211
     assert bolt_area(d) == 606
     assert spacing_verdict(B, N).holds
     assert strength_verdict(larger_pull(*pulls), bolt_area(d)).holds

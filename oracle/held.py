@@ -89,9 +89,9 @@ NEXT_COURSE = course(example.COURSES[0])
 
 # By its anchors: of the example as it is, then with the calm site, then with a course more.
 SAID = {
-    SIX_ANCHORS: (anchored_report("2123 73371", "2133 -211", 3),
-                  anchored_report("1800 62208", "1530 -211", 3),
-                  anchored_report("1800 110592", "4145 -211", 4)),
+    SIX_ANCHORS: (anchored_report("2123 73371", "2133 -191", 3),
+                  anchored_report("1800 62208", "1530 -191", 3),
+                  anchored_report("1800 110592", "4145 -191", 4)),
     NO_ANCHORS: (self_report("2123 73371", "short", "94646 none", 3),
                  self_report("1800 62208", "short", "94646 none", 3),
                  self_report("1800 110592", "short", "94646 none", 4)),
@@ -191,7 +191,7 @@ def stated_between():
 def twelve_courses():
     """No two of them alike, and half as high as the example: a quarter of its M."""
     courses = [with_field(figures, 15, 1_200) for figures in scripts.FULL_COURSES]
-    stated = anchored_report("2123 18343", "-841 -211", 12)
+    stated = anchored_report("2123 18343", "-841 -191", 12)
     yield judged_after_each(
         (new(), "held", "refused 32"),
         (tank(with_field(example.TANK, 2, 14_400)), "ok", "refused 35"),
@@ -205,9 +205,9 @@ def twelve_courses():
 def water_above_shell():
     """Up to the last course, which is 37 only once anchors are stated."""
     for H, n, by_six, by_none in (
-            (28_801, 4, anchored_report("2123 130438", "5218 -211", 4),
+            (28_801, 4, anchored_report("2123 130438", "5218 -191", 4),
              self_report("2123 130438", "short", "94648 none", 4)),
-            (76_800, 8, anchored_report("2123 521749", "26370 -211", 8, strength="short"),
+            (76_800, 8, anchored_report("2123 521749", "26370 -191", 8, strength="short"),
              self_report("2123 521749", "short", "183120 none", 8))):
         filled = ((new(), "held", "refused 32"),
                   (tank(with_field(example.TANK, 2, H)), "ok", "refused 35"),
@@ -229,7 +229,7 @@ READABLE = {    # bytes, and what is said of them
     SELF_BYTES: SELF_SAID,
     model.sheet_as_bytes(judged.SELF): self_report("2123 73371", "holds", "122400 none", 3),
     model.sheet_as_bytes(changed(EXAMPLE, B=22_919)):
-        anchored_report("2123 73371", "728 -786", 3, spacing="short"),
+        anchored_report("2123 73371", "728 -766", 3, spacing="short"),
     model.sheet_as_bytes(changed(EXAMPLE, H=28_801)): "refused 37",
     model.sheet_as_bytes(changed(SELF, H=76_800)): "refused 37",
     FULL_BYTES: "accepted sound",
@@ -375,7 +375,7 @@ def judged_beside_others():
 GROWER_BYTES = model.sheet_as_bytes(GROWER)
 GROWER_LETTERS = {**LETTERS, "t": tank(GROWER.tank), "c": course(GROWER.courses[0])}
 GROWER_STANDS = {   # by the letter of its anchors
-    "6": "wind 2123 73371 anchored 909 -1435 holds .. holds .. uses .. .. courses 3",
+    "6": "wind 2123 73371 anchored 909 -1402 holds .. holds .. uses .. .. courses 3",
     "0": "wind 2123 73371 self holds .. 122400 none holds .. uses .. .. courses 3",
 }
 GROWER_WORDS = {    # and by the method, before that and after it

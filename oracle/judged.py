@@ -8,8 +8,10 @@ group.
 """
 
 from collections import Counter
+from fractions import Fraction
 from functools import cache
 from itertools import product
+from math import ceil, floor, gcd, trunc
 from random import Random
 
 import document as doc
@@ -19,7 +21,7 @@ import scripts
 import sheet as model
 from document import API_650, D100
 from judging import FULL_HEADS, FULL_HEADS_A_FOOT_UP
-from leaves import NO_METHODS, beside, hexadecimal
+from leaves import NO_METHODS, beside, hexadecimal, verdict_text
 from records import (
     JUDGE, JUDGING, MARK, MOST_BUFFER, NO_REPORT_TEXT, forge, in_turn, judge, mark, outcome_on,
     refusal_word, to_judge,
@@ -153,12 +155,14 @@ SELF = changed(self_anchored(EXAMPLE), W=18_345)        # sound; T is 122,400
 WHOLE_BY_CAP = changed(SELF, D=12_000, W=19_880, V=96, Av=0)
 WHOLE_BY_ROOT = changed(WHOLE_BY_CAP, H=10_000, W=17_750, plate=120, allowance=100, Fy=30_000)
 
-# 4,800 moment / B is moment / 3, and M is 62,208, nothing rounded.
-THIRDS = changed(EXAMPLE, V=96, B=14_400)
+# 4,800 moment / B is two fifths of the moment, M is 51,840, and in an earthquake four fifths of W
+# are left, nothing rounded: the exact pulls are (20,736 - W) / 6 and (Ms - 2 W) / 15.
+FIFTHS = changed(EXAMPLE, D=12_000, V=96, Av=500, B=12_000)
+UPWARD = 20_736             # 4,800 M / B
 
-# The same with Hs 76,800 and p 4,500, nothing rounded.
-TALL_THIRDS = changed(with_widths(EXAMPLE, [9_600] * 8), H=9_600, V=125, Kz=150, I=125, B=14_400)
-TALL_MOMENT = 1_105_920
+# The same with Hs 76,800 and p 4,500, nothing rounded: M is 921,600.
+TALL_FIFTHS = changed(with_widths(FIFTHS, [9_600] * 8), H=9_600, V=125, Kz=150, I=125)
+TALL_UPWARD = 368_640
 
 LIGHT = changed(EXAMPLE, W=100, V=137, d=6)     # the wind pull is 6,735; the bolts bear 6,663
 
@@ -172,7 +176,7 @@ GROWER = changed(SOURCE_TANK, W=18_345, t=188, c=139)
 
 
 def example_cases():
-    yield sound(EXAMPLE, "wind 2123 73371 anchored 2133 -211")
+    yield sound(EXAMPLE, "wind 2123 73371 anchored 2133 -191")
     yield sound(changed(EXAMPLE, V=96), "wind 1800 62208")
     yield sound(changed(EXAMPLE, V=97), "wind 1812 62623")
     yield sound(changed(EXAMPLE, B=22_918))
@@ -209,9 +213,9 @@ def readings_astray():
     yield sound(changed(SELF, Ms=150_000), "122400 lift")
     yield short(changed(SELF, Ms=200_000), "earthquake", shows="122400 over")
     # cut toward zero these would be 12,089, which the bolts bear, 0 and 2,132
-    yield short(changed(EXAMPLE, Ms=257_564), "strength", shows="2133 12090")
-    yield sound(changed(EXAMPLE, Ms=33_917), "2133 1")
-    yield sound(EXAMPLE, "2133 -211")
+    yield short(changed(EXAMPLE, Ms=257_197), "strength", shows="2133 12090")
+    yield sound(changed(EXAMPLE, Ms=33_551), "2133 1")
+    yield sound(EXAMPLE, "2133 -191")
 
 
 # --- Groups: refusals ---------------------------------------------------------
@@ -282,7 +286,7 @@ def stated_in_turn():
         yield reported(sheet, rules, "self short" if figures == (0, 0, 0) else "anchored")
     for figures in ((5, 14_800, 8), (6, 14_399, 8), (0, 0, 8)):
         sheet = model.take_step(sheet, model.ANCHORS, figures).sheet
-        yield sound(sheet, "anchored 2133 -211")
+        yield sound(sheet, "anchored 2133 -191")
 
 
 def broken_slots():
@@ -462,18 +466,19 @@ def strength_at_equality():
     """1,000 pull is 19,950 A only where 20 divides A: d 14 (pull 37,905) and d 16 (49,875).
     The other seven sizes have no equality; bolt_sizes has them on both sides of it."""
     for d, pull in ((14, 37_905), (16, 49_875)):
-        W = TALL_MOMENT // 3 - 6 * pull
-        by_wind = changed(TALL_THIRDS, d=d, W=W)
+        W = TALL_UPWARD - 6 * pull
+        by_wind = changed(TALL_FIFTHS, d=d, W=W)
         for weight in (W - 7, W - 6, *beside(W), W + 5, W + 6):     # six pounds move it by one
             yield sound_if(weight >= W, changed(by_wind, W=weight), "strength",
                            shows=f"anchored {pull - (weight - W) // 6}")
-        Ms = 3 * (6 * pull + 11_000)
-        for moment in (Ms - 18, Ms - 17, *beside(Ms), Ms + 18, Ms + 19):    # so do eighteen
-            yield sound_if(moment <= Ms, changed(THIRDS, d=d, Ms=moment), "strength")
-    # M rounded up, from 722,042.88
-    rounded = changed(TALL_THIRDS, V=101, d=14)
-    for W in beside(13_251):
-        yield sound_if(W >= 13_251, changed(rounded, W=W), "strength")
+        Ms = 15 * pull + 2 * 11_000
+        for moment in (Ms - 15, Ms - 14, *beside(Ms), Ms + 15, Ms + 16):    # so do fifteen
+            yield sound_if(moment <= Ms, changed(FIFTHS, d=d, Ms=moment), "strength",
+                           shows=f"{pull + doc.rounded_up(moment - Ms, 15)} holds")
+    # M rounded up, from 601,702.4, with which 13,251 would do
+    rounded = changed(TALL_FIFTHS, V=101, d=14)
+    for W in beside(13_252):
+        yield sound_if(W >= 13_252, changed(rounded, W=W), "strength")
 
 
 def lift_boundaries():
@@ -526,7 +531,7 @@ def one_standing_rule_short():
         yield sound(changed(LIGHT, Ms=Ms, V=136))
         yield short(changed(LIGHT, Ms=Ms), "strength")
     # by the earthquake pull, the wind pull being less or negative
-    yield short(changed(EXAMPLE, Ms=257_564), "strength", shows="2133 12090")
+    yield short(changed(EXAMPLE, Ms=257_197), "strength", shows="2133 12090")
     yield short(changed(EXAMPLE, W=50_000, Ms=400_000), "strength")
 
 
@@ -645,31 +650,35 @@ def pressures():
 
 
 def pulls():
-    """Each of the two negative, 0 and positive, whole and rounded up; on THIRDS six pounds
-    of W move both by one, and eighteen foot-pounds the earthquake's."""
-    aims = (*product((-400, -1, 0, 1, 400), (0, 5), (-300, 0, 500), (0, 17)),
-            *product((-400, 0, 400), (1,), (-1, 0, 1), (0, 1, 17)))
+    """Each of the two negative, 0 and positive, whole and rounded up; on FIFTHS six pounds of W
+    move the wind's by one, and fifteen foot-pounds the earthquake's."""
+    aims = (*product((-400, -1, 0, 1, 400), (0, 5), (-300, 0, 500), (0, 14)),
+            *product((-400, 0, 400), (1,), (-1, 0, 1), (0, 1, 14)))
     for wind, heavier, earthquake, less in aims:
-        W = 62_208 // 3 - 6 * wind + heavier        # the exact pull is less by a sixth of it
-        Ms = 3 * (6 * earthquake + W) - less        # and by an eighteenth of this
-        yield sound(changed(THIRDS, W=W, Ms=Ms), f"anchored {wind} {earthquake}")
-    yield sound(changed(THIRDS, Ms=62_208), "anchored 1623 1623")
-    yield sound(changed(THIRDS, W=10_000_000, Ms=0), "anchored -1663210 -1666666")
+        W = UPWARD - 6 * wind + heavier             # the exact pull is less by a sixth of it
+        Ms = 15 * earthquake + 2 * W - less         # and by a fifteenth of this
+        yield sound(changed(FIFTHS, W=W, Ms=Ms), f"anchored {wind} {earthquake}")
+    # both are 1,622 2/3; then by the same moment
+    yield sound(changed(FIFTHS, Ms=46_340), "anchored 1623 1623")
+    yield sound(changed(FIFTHS, Ms=51_840), "anchored 1623 1990")
+    # the least there are, with the whole of the greatest W and with what is left of it
+    for Av, earthquake in ((0, -1_666_666), (500, -1_333_333)):
+        yield sound(changed(FIFTHS, W=10_000_000, Av=Av, Ms=0), f"anchored -1663210 {earthquake}")
 
 
 def bolt_sizes():
     """Each size with the greatest pull that it bears and one more, by either pull; the wind
     pull needs a taller tank for the larger ones."""
-    for d, A in doc.BOLT_CHART.items():
-        most = doc.rounded_down(19_950 * A, 1_000)
-        Ms = 3 * (6 * most + 11_000)
-        yield sound(changed(THIRDS, d=d, Ms=Ms), f"{most} holds")
-        yield short(changed(THIRDS, d=d, Ms=Ms + 1), "strength")
-        yield short(changed(THIRDS, d=d, Ms=Ms + 18), "strength", shows=f"{most + 1} holds")
-        W = TALL_MOMENT // 3 - 6 * most
-        yield sound(changed(TALL_THIRDS, d=d, W=W), f"anchored {most}")
-        yield short(changed(TALL_THIRDS, d=d, W=W - 1), "strength")
-        yield sound(changed(EXAMPLE, d=d), "anchored 2133 -211")
+    for d in doc.BOLT_CHART:
+        most = near.most_borne(d)
+        Ms = 15 * most + 2 * 11_000
+        yield sound(changed(FIFTHS, d=d, Ms=Ms), f"{most} holds")
+        yield short(changed(FIFTHS, d=d, Ms=Ms + 1), "strength", shows=f"{most + 1} holds")
+        yield short(changed(FIFTHS, d=d, Ms=Ms + 15), "strength", shows=f"{most + 1} holds")
+        W = TALL_UPWARD - 6 * most
+        yield sound(changed(TALL_FIFTHS, d=d, W=W), f"anchored {most}")
+        yield short(changed(TALL_FIFTHS, d=d, W=W - 1), "strength")
+        yield sound(changed(EXAMPLE, d=d), "anchored 2133 -191")
         yield sound(changed(EXAMPLE, d=d, W=100_000, Ms=0))        # both negative: use 0
 
 
@@ -853,6 +862,179 @@ def no_method_and_more():
             yield refused("refused 30", judge(sheet, number))
 
 
+# --- Groups: the earthquake pull of request S-5 -------------------------------
+
+ACCELERATIONS = (0, 1, 250, 500)
+
+
+def fraction_weights(Av):
+    """From 25,000 on, such that what is left in an earthquake is whole, next to it on either side,
+    or has .2, .4, .6 or .8 behind it, as far as Av can make it so."""
+    period = 2_500 // gcd(2_500, Av)
+    fifths = (period * number // 5 for number in range(1, 5))
+    return [25_000 + more for more in sorted({0, 1, *fifths, period - 1})]
+
+
+def earthquake_pulls():
+    """Just below -1, 0 and 1, at them or nearly, and just above, on FIFTHS with other Av: there a
+    foot-pound moves the exact pull by a fifteenth, and a weight rounded first by up to a sixth."""
+    for Av in ACCELERATIONS:
+        for W, pull in product(fraction_weights(Av), (-1, 0, 1)):
+            wind = doc.rounded_up(UPWARD - W, 6)
+            most = 15 * pull + doc.rounded_down(W * (2_500 - Av), 1_000)
+            for Ms in beside(most):
+                yield sound(changed(FIFTHS, W=W, Av=Av, Ms=Ms),
+                            f"anchored {wind} {pull + (Ms > most)}")
+
+
+def with_exact_pull(sheet, pull, off):
+    """The sheet with a W and an Ms that make its exact earthquake pull this whole one; with off -1
+    or 1 the next below or above it that its Av, N and B permit. None if the ranges have no such W
+    and Ms."""
+    *_rest, Av, _Ms = sheet.site
+    N, B, _d = sheet.anchors
+    # 12,000,000 Ms - (2,500 - Av) B W is 2,500 N B times the exact pull
+    by_weight = (2_500 - Av) * B
+    least = gcd(12_000_000, by_weight)
+    by_pull = 2_500 * N * B * pull + off * least
+    if by_pull % least != 0:
+        return None
+    period = 12_000_000 // least
+    first = -(by_pull // least) * pow(by_weight // least, -1, period) % period
+    for W in range(first, doc.FIELD_RANGES[3][1] + 1, period):
+        Ms = (by_pull + by_weight * W) // 12_000_000
+        if doc.field_in_range(3, W) and doc.field_in_range(11, Ms):
+            found = changed(sheet, W=W, Ms=Ms)
+            assert judging.exact_earthquake_pull(found) == Fraction(by_pull, 2_500 * N * B)
+            return found
+    return None
+
+
+def earthquake_pulls_nearest():
+    """The same, and off by as little as Av permits with this B: 1 / (N B) or less. N 192 makes
+    whole pulls with each Av."""
+    for Av, pull, off in product(ACCELERATIONS, (-30_000, -1, 0, 1), (-1, 0, 1)):
+        sheet = with_exact_pull(changed(EXAMPLE, Av=Av, N=192, B=299_999), pull, off)
+        yield sound(sheet, f"{pull + (off > 0)} holds")
+
+
+def no_vertical_motion():
+    """With Av 0 the figures are document 01's own, and the edges where they were without S-5."""
+    still = changed(EXAMPLE, Av=0)
+    yield sound(still, "wind 2123 73371 anchored 2133 -211")
+    for Ms, pull in ((33_916, 0), (33_917, 1), (257_563, 12_089), (257_564, 12_090)):
+        yield sound_if(pull < 12_090, changed(still, Ms=Ms), "strength", shows=f"2133 {pull}")
+    yield sound(changed(still, B=22_918), "728 -786")
+    yield short(changed(still, B=22_919), "spacing", shows="728 -786")
+    yield sound(changed(still, W=18_345), "909 -1435")
+    thirds = changed(still, V=96, B=14_400)     # 4,800 moment / B is a third of the moment
+    yield sound(changed(thirds, Ms=62_208), "anchored 1623 1623")
+    yield sound(changed(thirds, W=10_000_000, Ms=0), "anchored -1663210 -1666666")
+    for d, pull in ((14, 37_905), (16, 49_875)):
+        most = 3 * (6 * pull + 11_000)
+        for Ms in beside(most):
+            yield sound_if(Ms <= most, changed(thirds, d=d, Ms=Ms), "strength",
+                           shows=f"{pull + (Ms > most)} holds")
+
+
+def wind_pull_unmoved():
+    """The same sheet with Av 0 and more: the wind pull stays, the earthquake pull grows."""
+    for Av, earthquake in ((0, -211), (1, -210), (27, -191), (250, -28), (499, 155), (500, 155)):
+        yield sound(changed(EXAMPLE, Av=Av), f"anchored 2133 {earthquake}")
+    for sheet, wind, still, shaken in (
+            (FIFTHS, 1_623, 167, 534),
+            (changed(FIFTHS, W=10_000_000), -1_663_210, -1_664_666, -1_331_333),
+            (changed(TALL_FIFTHS, d=16, W=69_390), 49_875, -9_565, -7_252),
+            (changed(EXAMPLE, N=200, B=300_000, W=2_000_000), -9_994, -9_997, -7_997),
+            (changed(EXAMPLE, W=25), 3_962, 1_618, 1_619)):
+        yield sound(changed(sheet, Av=0), f"anchored {wind} {still}")
+        yield sound(changed(sheet, Av=500), f"anchored {wind} {shaken}")
+
+
+TURNS = (1, 27, 250, 500)       # of Av: with it the earthquake pull becomes the larger one
+
+
+def turning(sheet, wind, turn):
+    """FIFTHS or TALL_FIFTHS with the greatest Ms whose pull, with the Av before the turn, is a
+    pound less than this wind pull."""
+    _D, _H, W, *_rest = sheet.tank
+    return changed(sheet, Ms=15 * (wind - 1) + doc.rounded_down(W * (2_501 - turn), 1_000))
+
+
+def shaken_about(sheet, turn):
+    """Some Av, and the sheet with it; the earthquake pull is the larger one from the turn on."""
+    for Av in sorted({0, turn - 1, turn, 500}):
+        shaken = changed(sheet, Av=Av)
+        wind, earthquake, *_verdicts = report_on(shaken).standing
+        assert (wind > earthquake) == (Av < turn) and wind != earthquake
+        yield Av, shaken
+
+
+def strength_text(pull, A):
+    return verdict_text(doc.strength_verdict(pull, A))
+
+
+def larger_pull_changes():
+    """Up to an Av the wind pull is the larger one, from its turn on the earthquake pull is. That
+    alone makes the strength fall short, and with it the tank, unless a course has done so already;
+    or all holds, and only the use grows."""
+    for d, turn in product(doc.BOLT_CHART, TURNS):
+        most = near.most_borne(d)
+        sheet = turning(changed(TALL_FIFTHS, d=d, W=TALL_UPWARD - 6 * most), most, turn)
+        for Av, shaken in shaken_about(sheet, turn):
+            yield sound_if(Av < turn, shaken, "strength", shows=f"anchored {most}")
+            if d == 8:
+                rules = ("course 2",) if Av < turn else ("course 2", "strength")
+                yield short(BREAKS["course 2"](shaken), *rules)
+    for turn in TURNS:
+        for _Av, shaken in shaken_about(turning(changed(FIFTHS, W=20_000), 123, turn), turn):
+            larger = max(report_on(shaken).standing[:2])
+            yield sound(shaken, f"{strength_text(larger, 606)} uses")
+    # both below 0, then the wind pull alone
+    heavy = changed(FIFTHS, W=25_000, Ms=62_000)
+    for Av, pull in ((0, 0), (500, 800)):
+        yield sound(changed(heavy, Av=Av), f"{strength_text(pull, 606)} uses")
+
+
+def strength_at_equality_in_earthquake():
+    """1,000 pull is 19,950 A with what is left of 25,000 pounds, ten less for one more of Av."""
+    for (d, pull), Av in product(((14, 37_905), (16, 49_875)), (1, 27, 250, 500)):
+        most = 15 * pull + 25 * (2_500 - Av)
+        equal = changed(FIFTHS, d=d, W=25_000, Av=Av, Ms=most)
+        for Ms in (most - 15, most - 14, *beside(most), most + 15, most + 16):
+            rounded = pull + doc.rounded_up(Ms - most, 15)
+            shows = "holds 3ff0000000000000 uses" if rounded == pull else f"{rounded} holds"
+            yield sound_if(Ms <= most, changed(equal, Ms=Ms), "strength", shows=shows)
+        for W in (24_999, 25_001):
+            yield sound_if(W > 25_000, changed(equal, W=W), "strength")
+        for acceleration in (Av - 1, Av + 1):
+            if acceleration <= 500:
+                yield sound_if(acceleration < Av, changed(equal, Av=acceleration), "strength")
+
+
+def strength_nearest_in_earthquake():
+    """Of each bolt size: the exact earthquake pull is the most that the rounded one may be, and as
+    little less or more as the ranges permit; N is the greatest with which W and Ms are in them."""
+    for d, Av, off in product(doc.BOLT_CHART, (27, 497), (-1, 0, 1)):
+        most = near.most_borne(d)
+        base = changed(EXAMPLE, Av=Av, B=299_999, d=d)
+        sheets = (with_exact_pull(changed(base, N=N), most, off) for N in range(200, 78, -1))
+        sheet = next(filter(None, sheets))
+        if off > 0:     # demand 3, with half of the pull's margin and with the whole weight
+            halved = judging.given_margins(sheet)._replace(pull=Fraction(1, 2))
+            assert judging.meets(sheet, D100, halved) == (19_950 * doc.bolt_area(d) % 1_000 > 500)
+            assert not judging.borne_out(changed(sheet, Av=0), D100, "short")
+        yield sound_if(off <= 0, sheet, "strength", shows=f"{most + (off > 0)} holds")
+
+
+def weights_that_count():
+    """Sheets on which another weight in demand 3 would show (see judging.py), and the same with
+    Av 0, all sound."""
+    for sheet, _weight in judging.WEIGHT_COUNTS:
+        yield handed_in(sheet)
+        yield sound(changed(sheet, Av=0))
+
+
 # --- Groups: at random, from fixed seeds --------------------------------------
 
 
@@ -934,6 +1116,13 @@ RANDOM_SHEETS = (random_self_anchored, random_anchored, random_ends, random_even
 IN_TURN = (
     one_course_short, floors, course_counts, courses_told_apart, pressures, pulls, bolt_sizes,
     field_ends, water_on_rim,
+    earthquake_pulls, earthquake_pulls_nearest, larger_pull_changes,
+    strength_at_equality_in_earthquake, strength_nearest_in_earthquake,
+)
+LIGHTER_TANK = (
+    earthquake_pulls, earthquake_pulls_nearest, no_vertical_motion, wind_pull_unmoved,
+    larger_pull_changes, strength_at_equality_in_earthquake, strength_nearest_in_earthquake,
+    weights_that_count,
 )
 GROUPS = (
     example_cases, readings_astray,
@@ -950,6 +1139,7 @@ GROUPS = (
     source_document_002, first_foot, course_at_equality_by_api_650, sound_by_api_650_alone,
     floors_by_api_650, courses_told_apart_by_api_650, several_short_by_api_650,
     margins_by_api_650, method_numbers, no_method_and_more, random_by_both_methods,
+    *LIGHTER_TANK,
 )
 
 
@@ -981,6 +1171,87 @@ def counted(words):
     return ", ".join(f"{counts[word]} {word}" for word in ("sound", "short", "refused"))
 
 
+# --- Readings of S-5, the right one and those that go astray ------------------
+
+
+def whole_weight(W, _Av):
+    return W
+
+
+def rounded_first(rounding):
+    return lambda W, Av: rounding(doc.weight_in_earthquake(W, Av))
+
+
+def reduced_by(factor):
+    """With this factor in place of 4."""
+    return lambda W, Av: W - W * Fraction(factor) * Av / 10_000
+
+
+def exact_pull(moment, weight, B, N):
+    return Fraction(4_800 * moment) / (N * B) - Fraction(weight) / N
+
+
+def away_from_zero(pull):
+    return ceil(pull) if pull > 0 else floor(pull)
+
+
+def read_as(for_wind=whole_weight, for_earthquake=doc.weight_in_earthquake, rounding=ceil):
+    """The two pulls with these weights, the second one rounded so."""
+    def pulls(M, Ms, W, Av, B, N):
+        return ceil(exact_pull(M, for_wind(W, Av), B, N)), \
+            rounding(exact_pull(Ms, for_earthquake(W, Av), B, N))
+    return pulls
+
+
+def rounded_twice(M, Ms, W, Av, B, N):
+    """What pulls up, and what holds down."""
+    return ceil(exact_pull(M, W, B, N)), \
+        ceil(exact_pull(Ms, 0, B, N)) - floor(doc.weight_in_earthquake(W, Av) / N)
+
+
+RIGHT = read_as()
+W_FOR_BOTH = read_as(for_earthquake=whole_weight)
+WEIGHED_ASTRAY = {
+    "W for both": W_FOR_BOTH,
+    "reduced for both": read_as(for_wind=doc.weight_in_earthquake),
+    "reduced for the wind alone": read_as(doc.weight_in_earthquake, whole_weight),
+    **{f"{factor} Av for 4 Av": read_as(for_earthquake=reduced_by(factor))
+       for factor in ("40", "10", "1", "4/10", "1/10", "-4")},
+}
+ROUNDED_ASTRAY = {
+    "rounded down": read_as(rounding=floor),
+    "rounded to the nearest": read_as(rounding=round),
+    "rounded twice": rounded_twice,
+    "the weight rounded down first": read_as(for_earthquake=rounded_first(floor)),
+    "the weight rounded up first": read_as(for_earthquake=rounded_first(ceil)),
+    "the weight rounded to the nearest first": read_as(for_earthquake=rounded_first(round)),
+}
+RIGHT_BELOW = {"cut toward zero": read_as(rounding=trunc)}
+RIGHT_ABOVE = {"rounded away from zero": read_as(rounding=away_from_zero)}
+
+
+def pulls_read(reading, result):
+    """The two pulls of a judged sheet with anchors, if they are read so."""
+    _D, _H, W, *_rest = result.sheet.tank
+    *_rest, Av, Ms = result.sheet.site
+    N, B, _d = result.sheet.anchors
+    return reading(result.report.M, Ms, W, Av, B, N)
+
+
+def told_apart(reading, results):
+    """Those that show other pulls."""
+    return [result for result in results
+            if result.report.standing[:2] != pulls_read(reading, result)]
+
+
+def turned(reading, result):
+    """Whether its strength would have the other verdict."""
+    _N, _B, d = result.sheet.anchors
+    pull = doc.larger_pull(*pulls_read(reading, result))
+    return doc.strength_verdict(pull, doc.bolt_area(d)).holds \
+        != result.report.standing.strength.holds
+
+
 # --- Self test, over all vectors ----------------------------------------------
 
 
@@ -1001,7 +1272,7 @@ def check_lines():
     plate, spacing, strength = (hexadecimal(doc.use_bits(*sides)) for sides in (
         (188, 250), (355 * 14_800, 1_356_000 * 6), (1_000 * 2_133, 19_950 * 606)))
     assert outcome(judge(EXAMPLE)).line() == (
-        f"accepted sound wind 2123 73371 anchored 2133 -211 holds {spacing} holds {strength} "
+        f"accepted sound wind 2123 73371 anchored 2133 -191 holds {spacing} holds {strength} "
         f"uses {spacing} {strength} courses 3 | 59 188 250 holds {plate} "
         f"| 40 188 250 holds {plate} | 20 188 250 holds {plate} . . . . . . . . .")
     assert outcome(judge(model.EMPTY)).line() == (
@@ -1053,6 +1324,67 @@ def check_beside_d100(results):
                 assert one.need <= more.need and one.required <= more.required and one.t == more.t
 
 
+def anchored_results(results):
+    """Of those judged, the ones that have two pulls in their report."""
+    return [result.judged for result in results
+            if result.word == "accepted"
+            and isinstance(result.judged.report.standing, judging.Anchored)]
+
+
+def results_in(*groups):
+    return anchored_results(outcome(record) for group in groups
+                            for record in group_records()[group.__name__])
+
+
+def shaken_by(Av, results):
+    return [result for result in results if result.sheet.site[3] == Av]
+
+
+def exact_pulls(results):
+    """In an earthquake."""
+    return [judging.exact_earthquake_pull(result.sheet) for result in results]
+
+
+def check_pulls(results):
+    """They are those of S-5's words; with Av 0 those of document 01 alone, W being for both."""
+    anchored = anchored_results(results)
+    still = shaken_by(0, anchored)
+    assert still and not told_apart(RIGHT, anchored) and not told_apart(W_FOR_BOTH, still)
+
+
+def check_earthquake_pulls():
+    """With each Av they are -1, 0 and 1 exactly, also with a fraction of a pound left of W, and
+    off these by no more than the step, less and more."""
+    for group, step in ((earthquake_pulls, Fraction(1, 15)),
+                        (earthquake_pulls_nearest, Fraction(1, 192 * 299_999))):
+        for Av, pull in product(ACCELERATIONS, (-1, 0, 1)):
+            off = {exact - pull for exact in exact_pulls(shaken_by(Av, results_in(group)))}
+            assert 0 in off and any(0 < one <= step for one in off) \
+                and any(-step <= one < 0 for one in off), (group, Av, pull)
+    for Av, pull in product(ACCELERATIONS[1:], (-1, 0, 1)):
+        results = shaken_by(Av, results_in(earthquake_pulls))
+        fractions = [result for result in results
+                     if doc.weight_in_earthquake(result.sheet.tank[2], Av).denominator > 1]
+        assert pull in exact_pulls(fractions), (Av, pull)
+
+
+def check_readings_astray():
+    """Each is told apart by pulls below 0 and above, as far as it is not right there, with each Av
+    above 0; by a verdict on the strength, if pulls above 0 show it; and, where the weight is not
+    the right one, by every sheet that is there with Av 0 and 500."""
+    every = {**WEIGHED_ASTRAY, **ROUNDED_ASTRAY, **RIGHT_BELOW, **RIGHT_ABOVE}
+    for (name, reading), Av in product(every.items(), ACCELERATIONS[1:]):
+        apart = told_apart(reading, shaken_by(Av, results_in(earthquake_pulls)))
+        assert name in RIGHT_BELOW or min(exact_pulls(apart)) < 0, (name, Av)
+        assert name in RIGHT_ABOVE or max(exact_pulls(apart)) > 0, (name, Av)
+    for name, reading in every.items():
+        assert name in RIGHT_ABOVE \
+            or any(turned(reading, result) for result in results_in(*LIGHTER_TANK)), name
+    shaken = shaken_by(500, results_in(wind_pull_unmoved))
+    for name, reading in WEIGHED_ASTRAY.items():
+        assert told_apart(reading, shaken) == shaken, name
+
+
 def check_shares():
     """Of the random sheets: both words, both ways of standing, both opcodes, every count."""
     records = [record for group in RANDOM_SHEETS for record in group_records()[group.__name__]]
@@ -1086,5 +1418,8 @@ def self_test():
     check_refusals()
     check_beside_writing(all_records(), all_outcomes())
     check_beside_d100(all_outcomes())
+    check_pulls(all_outcomes())
+    check_earthquake_pulls()
+    check_readings_astray()
     check_shares()
     check_shares_by_method()

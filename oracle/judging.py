@@ -1,7 +1,7 @@
 """Judging the sheet of document 01, and demand 3 in fractions.
 
 Written from the document alone: "Order" (with requests S-1 and S-3 of document 02), "The rules"
-with the paragraphs after them, and the mission's third demand. The rules' figures are
+with the paragraphs after them (with S-5), and the mission's third demand. The rules' figures are
 document.py's; `meets` takes none of them. S-3's method is handed in with the sheet, as any number
 that a u32 holds; bytes are judged by D100.
 """
@@ -111,9 +111,9 @@ def self_anchored(sheet, M):
 
 def anchored(sheet, M):
     _D, _H, W, *_rest = sheet.tank
-    *_rest, Ms = sheet.site
+    *_rest, Av, Ms = sheet.site
     N, B, d = sheet.anchors
-    pulls = (doc.net_pull(M, W, B, N), doc.net_pull(Ms, W, B, N))
+    pulls = (doc.net_pull(M, W, B, N), doc.net_pull(Ms, doc.weight_in_earthquake(W, Av), B, N))
     strength = doc.strength_verdict(doc.larger_pull(*pulls), doc.bolt_area(d))
     return Anchored(*pulls, doc.spacing_verdict(B, N), strength)
 
@@ -216,11 +216,14 @@ def self_anchored_meets(sheet, margins):
 
 
 def anchored_meets(sheet, margins):
+    """S-5: "the reduced weight, unrounded, for Ms, and W as before for M"."""
     _D, _H, W, *_rest = sheet.tank
-    *_rest, Ms = sheet.site
+    *_rest, Av, Ms = sheet.site
     N, B, d = sheet.anchors
-    pulls = [(4_800 * moment - W * B) / (N * B) + margins.pull
-             for moment in (exact_wind_moment(sheet, margins), Fraction(Ms))]
+    reduced = Fraction(W * (10_000 - 4 * Av), 10_000)
+    held_down = ((exact_wind_moment(sheet, margins), W), (Fraction(Ms), reduced))
+    pulls = [(4_800 * moment - weight * B) / (N * B) + margins.pull
+             for moment, weight in held_down]
     return 355 * B <= 1_356_000 * N \
         and all(1_000 * pull <= 19_950 * doc.BOLT_CHART[d] for pull in pulls)
 
@@ -259,6 +262,30 @@ FULL_HEADS_A_FOOT_UP = model.held((60_000, 31_800, *FULL_HEADS.tank[2:]), FULL_H
                                   FULL_HEADS.anchors,
                                   [*FULL_HEADS.courses[:3], (8_850, *FULL_HEADS.courses[3][1:])])
 
+# Its exact wind pull is 37,905, what its bolts bear.
+WIND_PULL_FULL = model.held((14_400, 9_600, 141_210, *EXAMPLE_BOTTOM), (125, 150, 125, 27, 0),
+                            (6, 14_400, 14), [LOW_WATER_COURSE] * 8)
+
+
+def pulled(W, Av, Ms, anchors=model.EXAMPLE.anchors):
+    """The example tank with other figures in its earthquake pull."""
+    D, H, _W, *bottom = model.EXAMPLE.tank
+    V, Kz, I, *_rest = model.EXAMPLE.site
+    return model.EXAMPLE._replace(tank=(D, H, W, *bottom), site=(V, Kz, I, Av, Ms),
+                                  anchors=anchors)
+
+
+# An exact earthquake pull is whole or at least 1 / (2,500 N B) off: this, at the least.
+LEAST_OFF = Fraction(1, 2_500 * 200 * 299_999)
+
+# Called short: the exact earthquake pull is 9,216, the most that the rounded one may be, and this.
+# Called sound: it is 37,905 or 49,875, all that the bolts bear; the last two have 8,800.8 and
+# 8,803.2 pounds left on their anchors.
+JUST_ABOVE = pulled(3_964_537, 27, 360_306_299, (200, 299_999, 7))
+JUST_FULL = pulled(7_500_000, 27, 937_496_875, (200, 299_999, 14))
+FRACTIONS_LEFT = (pulled(11_001, 500, 1_789_629, (7, 24_000, 16)),
+                  pulled(11_004, 500, 1_789_641, (7, 24_000, 16)))
+
 # A margin, and a sheet called short that meets every rule with half of it and the others whole.
 HALF_IS_LITTLE = (
     ("moment", model.held((14_400, 9_600, 27_691, *EXAMPLE_BOTTOM), (129, 109, 115, 27, 0),
@@ -271,7 +298,8 @@ HALF_IS_LITTLE = (
     ("resistance", model.held((144_000, 9_620, 200_005, 120, 100, 36_000),  # by its root
                               (60, 50, 100, 27, 13_519_821), model.SELF_ANCHORED,
                               [(9_600, 400, 0, 40_000, 100)] * 3)),
-    ("pull", model.EXAMPLE._replace(site=(105, 109, 115, 27, 257_564))),
+    ("pull", pulled(11_000, 27, 257_197)),
+    ("pull", JUST_ABOVE),
 )
 
 # A margin, and a sheet called sound that this margin alone would break.
@@ -279,15 +307,26 @@ MARGIN_COUNTS = (
     ("plate", FULL_HEADS),
     ("moment", model.held((14_400, 28_800, 15_552, *EXAMPLE_BOTTOM), (96, 109, 115, 27, 0),
                           model.SELF_ANCHORED, [LOW_WATER_COURSE] * 3)),
-    ("moment", model.held((14_400, 9_600, 141_210, *EXAMPLE_BOTTOM), (125, 150, 125, 27, 0),
-                          (6, 14_400, 14), [LOW_WATER_COURSE] * 8)),
+    ("moment", WIND_PULL_FULL),
     ("resistance", model.held((12_000, 10_000, 17_750, 120, 100, 30_000),
                               (96, 109, 115, 0, 99_176), model.SELF_ANCHORED,
                               [LOW_WATER_COURSE] * 3)),
     ("resistance", model.held((12_000, 28_800, 19_880, *EXAMPLE_BOTTOM),
                               (96, 109, 115, 0, 144_760), model.SELF_ANCHORED,
                               [LOW_WATER_COURSE] * 3)),
-    ("pull", model.EXAMPLE._replace(site=(105, 109, 115, 27, 257_563))),
+    ("pull", pulled(11_000, 27, 257_196)),
+    ("pull", JUST_FULL),
+)
+
+# A sheet, and a weight by a wrong reading of S-5, with which the word on it would not be borne out.
+WEIGHT_COUNTS = (
+    (pulled(11_000, 500, 250_780), 11_000),                 # called short; W for Ms as well
+    (pulled(11_000, 1, 204_400, (6, 14_800, 7)), 11_000),
+    (JUST_ABOVE, 3_964_537),
+    (pulled(11_279, 500, 192_971, (6, 14_401, 7)), 9_024),  # called short; 9,023.2 rounded up
+    (FRACTIONS_LEFT[0], 8_800),                             # called sound; rounded down
+    (FRACTIONS_LEFT[1], 8_803),                             # called sound; to the nearest
+    (WIND_PULL_FULL, 139_685),                              # called sound; reduced for M as well
 )
 
 
@@ -315,7 +354,18 @@ def check_margins():
             assert meets(sheet, method, halved), f"half the margin of {name} is enough"
     for name, sheet in MARGIN_COUNTS:
         check_margin_counts(name, sheet, doc.D100)
+    # the bolts of JUST_ABOVE bear 9,216.9: a margin of nine tenths, but for next to nothing
+    nearly = given_margins(JUST_ABOVE)._replace(pull=Fraction(9, 10) - LEAST_OFF)
+    assert meets(JUST_ABOVE, doc.D100, nearly)
     check_margin_counts("plate", FULL_HEADS_A_FOOT_UP, doc.API_650)
+
+
+def exact_earthquake_pull(sheet):
+    """Per anchor, with W less 0.4 Av of it, Av being a part of g."""
+    _D, _H, W, *_rest = sheet.tank
+    *_rest, Av, Ms = sheet.site
+    N, B, _d = sheet.anchors
+    return (4_800 * Ms - W * (1 - Fraction("0.4") * Fraction(Av, 1_000)) * B) / (N * B)
 
 
 def with_plates(sheet, t):
@@ -340,6 +390,27 @@ def check_methods():
         == [0, 0, 0, Fraction(13, 1_530)]
 
 
+def with_weight(sheet, weight):
+    """The sheet, held down by this weight in wind and earthquake."""
+    D, H, _W, *bottom = sheet.tank
+    V, Kz, I, _Av, Ms = sheet.site
+    return sheet._replace(tank=(D, H, weight, *bottom), site=(V, Kz, I, 0, Ms))
+
+
+def check_weights():
+    """The claim would catch another weight for Ms than the reduced one, unrounded, and another
+    than W for M."""
+    for sheet, pull in ((JUST_ABOVE, 9_216 + LEAST_OFF), (JUST_FULL, 37_905),
+                        *((full, 49_875) for full in FRACTIONS_LEFT)):
+        assert exact_earthquake_pull(sheet) == pull
+    for sheet, weight in WEIGHT_COUNTS:
+        other = with_weight(sheet, weight)
+        given = word_on(sheet, doc.D100)
+        assert not borne_out(other, doc.D100, given), (sheet, weight)
+        if weight == sheet.tank[2]:
+            assert (given, word_on(other, doc.D100)) == ("short", "sound")
+
+
 def check_exact():
     """The needs, the margins, none and given, and M with either are Fractions: with the least
     pressure (V 96) and with one above it."""
@@ -357,7 +428,7 @@ def self_test():
     refusal, report = judge(model.EXAMPLE, doc.D100)
     assert refusal is None and word(report) == "sound"
     assert (report.p, report.M) == (2_123, 73_371)
-    assert report.standing[:2] == (2_133, -211)
+    assert report.standing[:2] == (2_133, -191)
     assert [course[:3] for course in report.courses] \
         == [(59, 188, 250), (40, 188, 250), (20, 188, 250)]
 
@@ -378,3 +449,4 @@ def self_test():
     check_exact()
     check_margins()
     check_methods()
+    check_weights()

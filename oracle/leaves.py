@@ -2,9 +2,9 @@
 
 Each leaf has the domain of its arguments, its answer (from document.py; leaf 40's
 from ground.py), the documents' own figures for it (document 01's; request S-2's for
-leaf 40, S-3's for leaf 50), and its edges: points at equality or at a whole quotient
-with those one to either side. The two ends of each range, combined, and random points
-with a fixed seed come from the domain.
+leaf 40, S-3's for leaf 50, S-5's for leaves 51 and 52), and its edges: points at
+equality or at a whole quotient with those one to either side. The two ends of each
+range, combined, and random points with a fixed seed come from the domain.
 """
 
 from fractions import Fraction
@@ -54,6 +54,8 @@ T = (0, 13_387_754_000)
 LEAST_PULL = -1_666_666                     # W greatest, no moment, N 6
 PULL = (0, 800_000_000_000)                 # moment greatest, B 1, N 6
 A = (1, 2_500)
+PARTS = 10_000                              # of a pound, in which leaves 51 and 52 tell a weight
+WEIGHT_PARTS = (0, PARTS * W[1])
 MAPPED = (0, ground.MOST_MAPPED)            # Ss or S1, where it is not refused
 CLASSES = tuple(map(ord, ground.CLASSES))
 
@@ -80,6 +82,13 @@ def decimal(number):
 
 def yes_or_no(truth):
     return "yes" if truth else "no"
+
+
+def in_parts(pounds):
+    """A weight of a whole number of parts of a pound."""
+    parts = PARTS * pounds
+    assert parts.denominator == 1
+    return parts.numerator
 
 
 def hexadecimal(bits):
@@ -450,22 +459,55 @@ def self_wind_edges(rng):
 # --- Edges of the anchored leaves ---------------------------------------------
 
 
-def net_pull_edges(rng):
-    """Where 4,800 moment / B is whole, W = that less N q makes the exact pull the whole q."""
-    for _ in range(EDGE_DRAWS):
-        circle, anchors = small_draw(rng, B), even_draw(rng, N)
-        balanced = min(MOMENT[1], W[1] * circle // 4_800)   # W can hold this moment down
+def whole_pulls(rng, circles, parts, weights):
+    """Where 4,800 moment / B is whole in such parts of a pound, a weight of that less N q makes
+    the exact pull the whole q."""
+    for circle in circles:
+        anchors = even_draw(rng, N)
+        by_one = parts * anchors
+        balanced = min(MOMENT[1], weights[1] * circle // (4_800 * parts))   # can be held down
         for most in (MOMENT[1], balanced):
-            moment = whole_at(rng, 4_800, circle, (0, most))
+            moment = whole_at(rng, 4_800 * parts, circle, (0, most))
             if moment is None:
                 continue
-            up = 4_800 * moment // circle
-            least, greatest = -((W[1] - up) // anchors), (up - W[0]) // anchors
+            up = 4_800 * parts * moment // circle
+            least, greatest = -((weights[1] - up) // by_one), (up - weights[0]) // by_one
             nearest_nought = max(least, min(0, greatest))
             for pull in (nearest_nought, even_draw(rng, (least, greatest))):
-                point = (moment, up - anchors * pull, circle, anchors)
-                assert doc.net_pull(*point) == pull
-                yield from neighbours(*point)
+                weight = up - by_one * pull
+                assert doc.net_pull(moment, Fraction(weight, parts), circle, anchors) == pull
+                yield moment, weight, circle, anchors
+
+
+def net_pull_edges(rng):
+    circles = (small_draw(rng, B) for _ in range(EDGE_DRAWS))
+    for point in whole_pulls(rng, circles, 1, W):
+        yield from neighbours(*point)
+
+
+def weight_left_edges(_rng):
+    """Around where a whole number of pounds is left, and where the answer passes 31 and 32 bits."""
+    for acceleration in (0, 1, 27, 250, 500):
+        whole_weight = 2_500 // gcd(2_500, acceleration)
+        for weight in (*beside(whole_weight), *beside(4_000 * whole_weight)):
+            yield weight, acceleration
+        for limit in (2**31, 2**32):
+            weight = limit // (PARTS - 4 * acceleration)
+            yield weight, acceleration
+            yield weight + 1, acceleration
+
+
+def lighter_pull_edges(rng):
+    """A whole pull with the next ones to either side, and the least part of a pound off each, or a
+    foot-pound. With a circle of so many times 12,500 most of the weights are no whole pounds."""
+    circles = [*(round_draw(rng, B, 12_500) for _ in range(2)),
+               *(small_draw(rng, B) for _ in range(2))]
+    for moment, weight, circle, anchors in whole_pulls(rng, circles, PARTS, WEIGHT_PARTS):
+        for pull in (-1, 0, 1):
+            for near in beside(weight + PARTS * anchors * pull):
+                yield moment, near, circle, anchors
+        for near in beside(moment):
+            yield near, weight, circle, anchors
 
 
 def larger_pull_edges(rng):
@@ -650,6 +692,7 @@ class Leaf(NamedTuple):
     usual: tuple = ()                           # a part of the domain, for more random points
     random: int = RANDOM_POINTS                 # how many points from the whole of it
     allowed: Callable = lambda point: True      # where the ranges alone do not say it
+    ends: Callable = ends                       # of a range: the figures that are combined
 
 
 LEAVES = {
@@ -871,6 +914,24 @@ LEAVES = {
         usual=((doc.D100, doc.API_650), U32),
         random=20,      # nearly all of them refused
     ),
+    51: Leaf(
+        (W, AV),
+        lambda weight, acceleration: decimal(
+            in_parts(doc.weight_in_earthquake(weight, acceleration))),
+        ((11_000, 27), (11_000, 0)),
+        weight_left_edges,
+        random=30,
+    ),
+    52: Leaf(
+        (MOMENT, WEIGHT_PARTS, B, N),
+        lambda moment, weight, circle, anchors: decimal(
+            doc.net_pull(moment, Fraction(weight, PARTS), circle, anchors)),
+        ((30_000, 108_812_000, 14_800, 6), (30_000, 110_000_000, 14_800, 6),
+         (73_371, 110_000_000, 14_800, 6)),
+        lighter_pull_edges,
+        random=30,
+        ends=tuple,     # no more than the two themselves
+    ),
 }
 
 # --- Points and lines ---------------------------------------------------------
@@ -899,7 +960,7 @@ def leaf_points(number):
     rng = Random(number)
     points = dict.fromkeys(leaf.figures)    # a dict keeps its order
     assert all(inside(leaf, point) for point in points)
-    points.update(dict.fromkeys(filter(leaf.allowed, product(*map(ends, leaf.domain)))))
+    points.update(dict.fromkeys(filter(leaf.allowed, product(*map(leaf.ends, leaf.domain)))))
     points.update(dict.fromkeys(point for point in leaf.edges(rng) if inside(leaf, point)))
     if prod(greatest - least + 1 for least, greatest in leaf.domain) <= WHOLE_DOMAIN:
         whole = product(*(range(least, greatest + 1) for least, greatest in leaf.domain))
@@ -931,7 +992,7 @@ def as_bytes(lines):
     return "".join(line + "\n" for line in lines).encode("ascii")
 
 
-# --- Self test: leaves 12 and 50 ----------------------------------------------
+# --- Self test: leaves 12, 50, 51 and 52 --------------------------------------
 
 
 def check_refusals():
@@ -954,6 +1015,31 @@ def check_methods():
     assert not {*NO_METHODS} & {*doc.METHODS} and {*NO_METHODS} <= {*asked}
 
 
+def check_lighter_tanks():
+    """The answers spelled out, and leaf 35's wherever the weight is W. Exact pulls are whole and
+    not, on both sides of 0, with weights of whole pounds and others."""
+    for line, text in (("51 11000 27 0 0", "108812000"), ("51 1 1 0 0", "9996"),
+                       ("51 1 500 0 0", "8000"), ("51 10000000 0 0 0", "100000000000"),
+                       ("52 30000 108812000 14800 6", "-191"),
+                       ("52 30000 110000000 14800 6", "-211"),
+                       ("52 0 59999 1 6", "0"), ("52 0 60000 1 6", "-1"), ("52 0 60001 1 6", "-1"),
+                       ("52 1 48000001 1 6", "0"), ("52 1 48000000 1 6", "0"),
+                       ("52 1 47999999 1 6", "1"), ("52 1 47940000 1 6", "1"),
+                       ("52 1 47939999 1 6", "2")):
+        assert answer(line) == text, (line, text)
+    kinds = []
+    for moment, weight, circle, anchors in leaf_points(52):
+        exact = Fraction(4_800 * moment, circle * anchors) - Fraction(weight, PARTS * anchors)
+        in_pounds = weight % PARTS == 0
+        kinds.append((exact > 0, exact.denominator == 1, in_pounds))
+        if in_pounds and weight > 0:
+            by_whole_weight = leaf_line(35, (moment, weight // PARTS, circle, anchors))
+            assert answer(leaf_line(52, (moment, weight, circle, anchors))) \
+                == answer(by_whole_weight)
+    assert min(map(kinds.count, product((False, True), repeat=3))) >= 10
+
+
 def self_test():
     check_refusals()
     check_methods()
+    check_lighter_tanks()

@@ -130,6 +130,11 @@ def circle_and_anchors(rng, D, broken):
     return rng.choice((B, B, widest)), N
 
 
+def most_borne(d):
+    """The greatest whole pull that a bolt of this size bears."""
+    return doc.rounded_down(19_950 * doc.bolt_area(d), 1_000)
+
+
 def pull_aimed_at(rng, most, broken):
     """The most that the bolt bears, around 0, or anything."""
     if broken:
@@ -162,10 +167,11 @@ def anchored_sheet(rng, method=doc.D100):
     M = doc.wind_moment(doc.wind_pressure(Kz, I, V), D, sum(course_widths))
     B, N = circle_and_anchors(rng, D, "spacing" in broken)
     d = rng.choice(list(doc.BOLT_CHART))
-    most = doc.rounded_down(19_950 * doc.bolt_area(d), 1_000)
+    most = most_borne(d)
     aims = [pull_aimed_at(rng, most, f"{name} pull" in broken) for name in ("wind", "earthquake")]
     W = within(3, doc.rounded_up(4_800 * M - N * B * aims[0], B) - ("wind pull" in broken))
-    Ms = within(11, doc.rounded_down((N * aims[1] + W) * B, 4_800) + ("earthquake pull" in broken))
     shell = list(courses(rng, D, H, course_widths, method, "course" in broken))
-    return model.held((D, H, W, plate, allowance, Fy), (V, Kz, I, even(rng, 10), Ms), (N, B, d),
-                      shell)
+    Av = even(rng, 10)
+    upward = N * aims[1] + doc.weight_in_earthquake(W, Av)      # 4,800 Ms / B
+    Ms = within(11, doc.rounded_down(upward * B, 4_800) + ("earthquake pull" in broken))
+    return model.held((D, H, W, plate, allowance, Fy), (V, Kz, I, Av, Ms), (N, B, d), shell)

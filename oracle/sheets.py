@@ -20,8 +20,9 @@ import sheet as model
 import text
 import tries
 from judged import (
-    BREAKS, EXAMPLE, SELF, TALL_MOMENT, TALL_THIRDS, THIRDS, changed, counted, course_changed,
-    has_part, self_anchored, with_courses, with_figure, with_widths,
+    BREAKS, EXAMPLE, FIFTHS, SELF, TALL_FIFTHS, TALL_UPWARD, UPWARD, changed, counted,
+    course_changed, has_part, self_anchored, shaken_about, turning, with_courses, with_figure,
+    with_widths,
 )
 from leaves import beside
 from records import refusal_word
@@ -104,7 +105,7 @@ CALM, STORM = {"V": 60, "Kz": 50, "I": 100}, {"V": 150, "Kz": 150, "I": 125}
 # The longest text, 452 bytes. A course's line has four digits for each of its three numbers at
 # most, p has four and M eight; a pull has eight characters, a sign among them. All of that with
 # each verdict short makes 453, which no sheet has: two such pulls are both below 0, and the
-# strength is ok, or B is below 73,000, where M has seven digits and the upper needs have three.
+# strength is ok, or B is below 75,000, where M has seven digits and the upper needs have three.
 LONGEST = changed(with_widths(EXAMPLE, [*widths_to(62_400, 11), 14_400]), D=240_000, H=76_800,
                   W=7_000_000, Ms=1_000_000_000, N=6, B=240_000, d=6, t=1_000, s=10_000, E=50,
                   **STORM)
@@ -123,7 +124,7 @@ def cases_on_the_tank():
     """Those that bytes can be: a thirteenth course, 33, cannot be read (13)."""
     assert text_of(EXAMPLE_BYTES) == text.EXAMPLE_TEXT
     yield whole(EXAMPLE, "course 1 59 188 250 ok", "course 2 40 188 250 ok",
-                "course 3 20 188 250 ok", "wind 2123 73371", "pull 2133 -211",
+                "course 3 20 188 250 ok", "wind 2123 73371", "pull 2133 -191",
                 "anchors spacing ok strength ok", "tank sound")
     yield whole(changed(EXAMPLE, V=96), "wind 1800 62208", "tank sound")
     yield whole(changed(EXAMPLE, V=97), "wind 1812 62623", "tank sound")
@@ -468,12 +469,13 @@ def resistances():
 
 
 def pulled(wind, earthquake):
-    """A sheet with these two pulls, or None; nothing in them is rounded."""
-    for sheet, M in ((THIRDS, 62_208), (TALL_THIRDS, TALL_MOMENT)):
-        W = M // 3 - 6 * wind
-        Ms = 3 * (6 * earthquake + W)
+    """A sheet with these two pulls, or None; nothing in them is rounded. Av is 500 or, where the
+    tank would be too light for them, 0."""
+    for Av, (sheet, upward) in product((500, 0), ((FIFTHS, UPWARD), (TALL_FIFTHS, TALL_UPWARD))):
+        W = upward - 6 * wind
+        Ms = 15 * earthquake + W // 2 * (2_500 - Av) // 500     # W is even
         if doc.field_in_range(3, W) and doc.field_in_range(11, Ms):
-            return changed(sheet, W=W, Ms=Ms)
+            return changed(sheet, W=W, Av=Av, Ms=Ms)
     return None
 
 
@@ -486,13 +488,28 @@ def pulls():
             sheet = pulled(wind, earthquake)
             if sheet is not None:
                 yield whole(sheet, f"pull {wind} {earthquake}")
-    light = changed(TALL_THIRDS, W=1, **STORM)
+    light = changed(TALL_FIFTHS, D=14_400, B=14_400, W=1, **STORM)
     yield whole(changed(light, Ms=1_000_000_000), "pull 88474 55555556")
     small = changed(EXAMPLE, D=12_000, B=12_000, W=1, Ms=1_000_000_000)
     yield whole(small, "pull 4077 66666667")
     heavy = changed(with_widths(EXAMPLE, [1_200]), H=1_200, D=12_000, B=300_000, W=10_000_000,
                     Ms=0, **CALM)
-    yield whole(heavy, "pull -1666666 -1666666")
+    yield whole(changed(heavy, Av=0), "pull -1666666 -1666666")
+    yield whole(changed(heavy, Av=500), "pull -1666666 -1333333")
+
+
+def accelerations():
+    """The example tank, the second pull of which goes from below 0 to above; then tanks whose
+    second pull comes to be the larger one, and more than the bolts bear."""
+    for Av, pull in ((0, -211), (1, -210), (26, -192), (27, -191), (28, -191), (250, -28),
+                     (286, -1), (287, -1), (288, 0), (289, 1), (499, 155), (500, 155)):
+        yield whole(changed(EXAMPLE, Av=Av), f"pull 2133 {pull}", "tank sound")
+    for d, most, W in ((6, 6_663, 328_662), (8, 12_089, 296_106), (16, 49_875, 69_390)):
+        sheet = turning(changed(TALL_FIFTHS, d=d, W=W), most, 250)
+        for Av, shaken in shaken_about(sheet, 250):
+            strength, word = ("ok", "sound") if Av < 250 else ("short", "short")
+            yield whole(shaken, f"pull {most}", f"anchors spacing ok strength {strength}",
+                        f"tank {word}")
 
 
 def courses_in_turn():
@@ -533,7 +550,7 @@ def standings_in_turn():
 
 def longest_and_shortest():
     yield whole(LONGEST, "course 12 1248 1248 1000 short", "wind 6480 26542080",
-                "pull -1078193 2166667", "anchors spacing short strength short", "tank short")
+                "pull -1078193 2179267", "anchors spacing short strength short", "tank short")
     yield whole(SHORTEST, "course 1 3 188 250 ok", "wind 1800 90", "self wind ok resist",
                 "tank sound")
     for letter, figures in (("d", (7, 16)), ("N", (7, 10, 63)), ("t", (100, 999, 1_001, 2_000)),
@@ -687,7 +704,7 @@ GROUPS = (
     anchors, heights, high_water,
     cuts, additions, lengths, versions_and_counts, each_byte, exchanged_fields, other_byte_orders,
     course_counts, needs_and_plates, plates, pressures, moments, resistances, pulls,
-    courses_in_turn, standings_in_turn, longest_and_shortest,
+    accelerations, courses_in_turn, standings_in_turn, longest_and_shortest,
     random_self_anchored, random_anchored, random_even, random_refused, random_damage,
     random_changes, random_noise,
 )
@@ -824,6 +841,19 @@ def check_numbers():
             (word, place)
 
 
+def check_lighter_tanks():
+    """With Av above 0 the second pull has every length that it has at all, and is 0."""
+    pulls = set()
+    for content, _was in all_cases():
+        sheet, answer = marked(content)
+        standing = answer.report.standing
+        if answer.refusal is None and isinstance(standing, judging.Anchored) \
+                and sheet.site[3] > 0:
+            pulls.add(standing.earthquake_pull)
+    assert 0 in pulls
+    assert {*map(signed_length, pulls)} == {*map(signed_length, numbers_at("pull", 2))}
+
+
 def check_refusals():
     """All that bytes lead to, 16 with every field."""
     words = {one for one in texts() if word_on(one) == "refused"}
@@ -860,6 +890,7 @@ def self_test():
     check_stdin()
     check_forms()
     check_numbers()
+    check_lighter_tanks()
     check_refusals()
     check_over_long()
     check_sizes()

@@ -68,14 +68,14 @@ def marked_text(content):
     return answer_text(judging.mark(content).answer)
 
 
-# --- Self test: "The example tank" --------------------------------------------
+# --- Self test: "The example tank", with the second pull of S-5 ---------------
 
 EXAMPLE_TEXT = b"""\
 course 1 59 188 250 ok
 course 2 40 188 250 ok
 course 3 20 188 250 ok
 wind 2123 73371
-pull 2133 -211
+pull 2133 -191
 anchors spacing ok strength ok
 tank sound
 """

@@ -17,6 +17,7 @@ use reports::report::Standing;
 use reports::report::Uses;
 use rules::verdict::Verdict;
 use stability::anchors;
+use stability::anchors::DeadWeight;
 use stability::earthquake;
 
 // T, the resistance to overturning by earthquake, in foot-pounds.
@@ -57,8 +58,10 @@ fn anchor_checks(tank: Tank, site: Site, a: Anchors, moment: u64) -> AnchorCheck
     requires { ⌜ moment ≤ mostMoment ⌝ }
     ensures { λ r. ⌜ r ≡ anchorChecks tank site a moment ⌝ }
 {
-    let wind_pull = anchors::pull(moment, tank.weight, a.circle, a.number);
-    let quake_pull = anchors::pull(site.moment as u64, tank.weight, a.circle, a.number);
+    let wind_weight = DeadWeight::whole(tank.weight);
+    let wind_pull = anchors::pull(moment, wind_weight, a.circle, a.number);
+    let quake_weight = DeadWeight::reduced(tank.weight, site.vertical);
+    let quake_pull = anchors::pull(site.moment as u64, quake_weight, a.circle, a.number);
     let spacing = anchors::spacing(a.circle, a.number);
     let larger = anchors::larger(wind_pull, quake_pull);
     let strength = anchors::strength(larger, fields::stress_area(a.size));

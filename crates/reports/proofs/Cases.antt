@@ -1,4 +1,4 @@
--- The cases that document 01 marks ◆, and those of S-1 and S-3 of document 02, computed by the checker.
+-- The cases that document 01 marks ◆, and those of S-1, S-3 and S-5 of document 02, computed by the checker.
 -- Assumes nothing.
 use mathlib.Core.Path.{_≡_, refl}
 use mathlib.Core.List.{map}
@@ -7,12 +7,12 @@ use Rattle.exact.specs.Root.{rootOf}
 use Rattle.fields.specs.Bolt.{inChart}
 use Rattle.fields.specs.Range.{within, between}
 use Rattle.fields.specs.Refusal.{plain}
-use Rattle.stability.specs.Anchors.{pullExact, pullOf, spacingVerdict}
+use Rattle.stability.specs.Anchors.{reducedWeight, pullExact, pullOf, spacingVerdict}
 use Rattle.stability.specs.Earthquake.{shellExact, shellWeight, rootMost, bottomRoot, capExact, bottomCap, bottomWeight, resistanceOf, upliftOf}
 use Rattle.rules.specs.Hoop.{headOf, designHead, hoopExact, hoopNeed, plateFloor, requiredPlate, courseVerdict}
 use Rattle.rules.specs.Method.{isMethod, methodOf}
 use Rattle.rules.specs.Verdict.{verdictOf}
-use Rattle.rules.specs.Wind.{pressureOf}
+use Rattle.rules.specs.Wind.{pressureOf, momentOf}
 use Rattle.fields.specs.Order.{answerCode, clear}
 use Rattle.entries.specs.Sheet.{badAnchors, tankFlaws, siteFlaws, anchorFlaws, courseFlaws}
 use Rattle.parts.specs.Parts.{coursesClear, coursesBlank, slotsReachable}
@@ -23,7 +23,7 @@ use Rattle.reports.specs.Judging.{judged}
 use Rattle.reports.specs.Cases.{exampleUnstated, provedCases, outcome, expected}
 
 pub proved-cases : map outcome provedCases ≡ map expected provedCases
-unfolding upℤ rootOf inChart within between pullExact pullOf spacingVerdict shellExact shellWeight rootMost bottomRoot capExact bottomCap bottomWeight resistanceOf upliftOf headOf designHead hoopExact hoopNeed plateFloor requiredPlate courseVerdict isMethod methodOf verdictOf pressureOf clear badAnchors tankFlaws siteFlaws anchorFlaws courseFlaws coursesClear coursesBlank slotsReachable reachable lineOf resistanceOn selfChecks anchorChecks standingOf reportOf judged
+unfolding upℤ rootOf inChart within between reducedWeight pullExact pullOf spacingVerdict shellExact shellWeight rootMost bottomRoot capExact bottomCap bottomWeight resistanceOf upliftOf headOf designHead hoopExact hoopNeed plateFloor requiredPlate courseVerdict isMethod methodOf verdictOf pressureOf momentOf clear badAnchors tankFlaws siteFlaws anchorFlaws courseFlaws coursesClear coursesBlank slotsReachable reachable lineOf resistanceOn selfChecks anchorChecks standingOf reportOf judged
 proved-cases = refl
 
 -- anchors left out are asked about

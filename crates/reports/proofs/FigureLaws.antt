@@ -10,14 +10,14 @@ use Rattle.fields.specs.Bolt.{stressArea}
 use Rattle.fields.proofs.BoltLaws.{stress-area-above}
 use Rattle.stability.specs.Anchors.{pullMargin}
 use Rattle.rules.specs.Bounds.{mostHeight, mostMoment, mostNeed, mostPressure, mostRequired}
-use Rattle.stability.specs.Bounds.{mostBottom, mostPlate, mostPull, mostResistance, mostShell}
+use Rattle.stability.specs.Bounds.{WeightIn, mostBottom, mostPlate, mostPull, mostResistance, mostShell}
 use Rattle.stability.specs.Earthquake.{shellWeight, rootMost, bottomWeight, resistanceMargin}
 use Rattle.rules.specs.Hoop.{plateMargin, requiredPlate}
 use Rattle.rules.specs.Wind.{momentMargin}
 use Rattle.rules.specs.declared.method.Method.{Method}
 use Rattle.stability.proofs.AnchorLaws.{strength-safe, strength-near}
 use Rattle.rules.proofs.Bounds.{need-most, head-most, design-head-most, required-most, pressure-most, moment-most}
-use Rattle.stability.proofs.Bounds.{shell-most, bottom-most, resistance-most, resistance-above, pull-most}
+use Rattle.stability.proofs.Bounds.{shell-most, bottom-most, resistance-most, resistance-above, whole-weight-in, reduced-weight-in, pull-most}
 use Rattle.stability.proofs.EarthquakeLaws.{root-fits, resistance-safe, resistance-near}
 use Rattle.rules.proofs.HoopLaws.{hoop-rounded}
 use Rattle.rules.proofs.WindLaws.{moment-rounded, moment-den, moment-margin-den}
@@ -28,7 +28,7 @@ use Rattle.entries.specs.declared.sheet.Site.{Site}
 use Rattle.entries.specs.declared.sheet.Anchors.{Anchors}
 use Rattle.entries.specs.declared.sheet.Course.{Course}
 use Rattle.entries.proofs.FieldLaws.{TankIn, SiteIn, AnchorsIn, tank-in, site-in, course-in, anchors-in}
-use Rattle.reports.specs.Figures.{designHeadOn, needOn, needExactOn, pressureOn, momentOn, momentExactOn, bottomPlate, resistanceOn, ResistsOn, pullOn, StrongOn}
+use Rattle.reports.specs.Figures.{designHeadOn, needOn, needExactOn, pressureOn, momentOn, momentExactOn, bottomPlate, resistanceOn, ResistsOn, windWeight, quakeWeight, pullOn, StrongOn}
 
 -- a course's hoop need, by a method
 pub need-rounded : (m : Method) (t : Tank) (y : ℕ) (c : Course) → T (clear (courseFlaws c)) → AtLeast (needExactOn m t y c) plateMargin (needOn m t y c)
@@ -109,6 +109,13 @@ module _ (t : Tank) (h : T (clear (tankFlaws t))) where
     unfolding resistanceOn ResistsOn
     resists-near = resistance-near (t .weight) (x .vertical) (t .diameter) (t .level) (bottomPlate t) (t .fy) wide fits f
 
+  -- the dead weight that resists uplift, in the wind and in an earthquake
+  pub wind-weight-in : WeightIn (windWeight t)
+  wind-weight-in = whole-weight-in (t .weight) (tank .weight)
+
+  pub quake-weight-in : (x : Site) → WeightIn (quakeWeight t x)
+  quake-weight-in x = reduced-weight-in (t .weight) _ (tank .weight)
+
   -- the anchors of a tank that has some
   module _ (a : Anchors) (k : T (clear (anchorFlaws (t .diameter) a))) (z : 0 < a .number) where
     pub anchors : AnchorsIn (t .diameter) a
@@ -117,17 +124,17 @@ module _ (t : Tank) (h : T (clear (tankFlaws t))) where
     pub circle-above : 0 < a .circle
     circle-above = omega (arith, anchors .around, tank .diameter .0)
 
-    pub pull-in : (moment : ℕ) → moment ≤ mostMoment → positivePart (pullOn t a moment) ≤ mostPull
-    pull-in moment l = pull-most moment (t .weight) (a .circle) (a .number) l circle-above (anchors .number)
+    pub pull-in : (w : Ratio) (moment : ℕ) → WeightIn w → moment ≤ mostMoment → positivePart (pullOn a w moment) ≤ mostPull
+    pull-in w moment i l = pull-most moment w (a .circle) (a .number) l (i .parts) circle-above (anchors .number)
 
     pub area-above : 0 < stressArea (a .size)
     area-above = stress-area-above (a .size) (anchors .size)
 
     -- their strength, against the pull of a moment that was rounded up from f
-    module _ (f : Ratio) (moment : ℕ) where
-      pub strong-safe : f .num ≤ moment * f .den → 1000 * positivePart (pullOn t a moment) ≤ 19950 * stressArea (a .size) → StrongOn t a f (whole 0)
-      strong-safe = strength-safe f moment (t .weight) (a .circle) (a .number) (stressArea (a .size)) z circle-above
+    module _ (w : Ratio) (i : WeightIn w) (f : Ratio) (moment : ℕ) where
+      pub strong-safe : f .num ≤ moment * f .den → 1000 * positivePart (pullOn a w moment) ≤ 19950 * stressArea (a .size) → StrongOn a w f (whole 0)
+      strong-safe = strength-safe f moment w (a .circle) (a .number) (stressArea (a .size)) (i .parts) z circle-above
 
-      pub strong-near : 0 < f .den → moment * f .den ≤ f .num → StrongOn t a f pullMargin
-          → 1000 * positivePart (pullOn t a moment) ≤ 19950 * stressArea (a .size)
-      strong-near = strength-near f moment (t .weight) (a .circle) (a .number) (stressArea (a .size)) z circle-above
+      pub strong-near : 0 < f .den → moment * f .den ≤ f .num → StrongOn a w f pullMargin
+          → 1000 * positivePart (pullOn a w moment) ≤ 19950 * stressArea (a .size)
+      strong-near = strength-near f moment w (a .circle) (a .number) (stressArea (a .size)) (i .parts) z circle-above

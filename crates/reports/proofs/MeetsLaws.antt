@@ -10,6 +10,7 @@ use native.Mathlib.Nat.{eq-zero-or-pos, lt-of-not-le, mul-le-mul-right, not-le-o
 use native.Mathlib.Decide.{decLe}
 use native.Mathlib.Omega.{arith}
 use lib.Dec.{T, leb}
+use lib.IntN.{ℤ}
 use lib.ListN.{getD}
 use mir.Facts.{and-yes}
 use borrow.Author.Tests.{leb-true, leb-false, eq-eqb, ne-eqb}
@@ -35,7 +36,7 @@ use Rattle.entries.specs.declared.sheet.Tank.{Tank}
 use Rattle.entries.specs.declared.sheet.Site.{Site}
 use Rattle.entries.specs.declared.sheet.Anchors.{Anchors}
 use Rattle.entries.specs.declared.sheet.Course.{Course}
-use Rattle.reports.specs.Figures.{needOn, needExactOn, momentOn, momentExactOn, resistanceOn, pullOn}
+use Rattle.reports.specs.Figures.{needOn, needExactOn, momentOn, momentExactOn, resistanceOn, windWeight, quakeWeight, pullOn}
 use Rattle.reports.specs.Report.{lineOf, linesOf, selfChecks, anchorChecks, standingOf, stands, coursesHold, wordOf, tankWord, reportOf}
 use Rattle.reports.specs.Meets.{Margins, noMargins, marginsFor, CourseMeets, CoursesMeet, SelfMeets, AnchorsMeet, MeetsWith, marginsOf}
 use Rattle.reports.specs.declared.report.SelfChecks.{SelfChecks}
@@ -43,7 +44,7 @@ use Rattle.reports.specs.declared.report.AnchorChecks.{AnchorChecks}
 use Rattle.reports.specs.declared.report.Standing.{Standing}
 use Rattle.reports.specs.declared.report.Standing.the-variants.{SelfAnchored, Anchored}
 use Rattle.reports.specs.declared.report.Word.the-variants.{Sound, Short}
-use Rattle.reports.proofs.FigureLaws.{need-rounded, moment-rounded-on, moment-with-den, resists-safe, resists-near, strong-safe, strong-near}
+use Rattle.reports.proofs.FigureLaws.{need-rounded, moment-rounded-on, moment-with-den, resists-safe, resists-near, wind-weight-in, quake-weight-in, strong-safe, strong-near}
 
 -- ---- a course
 
@@ -149,12 +150,18 @@ module _ (t : Tank) (k : T (clear (tankFlaws t))) (x : Site) (Hs : ℕ) where
     abbrev A : ℕ
     A = stressArea (a .size)
 
-    -- what an anchor carries of each pull
+    -- each pull, and what an anchor carries of it
+    abbrev wind-pull : ℤ
+    wind-pull = pullOn a (windWeight t) M
+
+    abbrev quake-pull : ℤ
+    quake-pull = pullOn a (quakeWeight t x) (x .moment)
+
     abbrev by-wind : ℕ
-    by-wind = positivePart (pullOn t a M)
+    by-wind = positivePart wind-pull
 
     abbrev by-quake : ℕ
-    by-quake = positivePart (pullOn t a (x .moment))
+    by-quake = positivePart quake-pull
 
     abbrev checks : AnchorChecks
     checks = anchorChecks t x a M
@@ -166,8 +173,8 @@ module _ (t : Tank) (k : T (clear (tankFlaws t))) (x : Site) (Hs : ℕ) where
     strength-is : holds (checks .strength) ≡ leb (1000 * max by-wind by-quake) (19950 * A)
     unfolding anchorChecks
     strength-is =
-        strength-holds (largerPull (pullOn t a M) (pullOn t a (x .moment))) A
-        ∙ ap (λ (r : ℕ). leb (1000 * r) (19950 * A)) (larger-is (pullOn t a M) (pullOn t a (x .moment)))
+        strength-holds (largerPull wind-pull quake-pull) A
+        ∙ ap (λ (r : ℕ). leb (1000 * r) (19950 * A)) (larger-is wind-pull quake-pull)
 
     anchors-sound : stands (Anchored checks) ≡ true → AnchorsMeet noMargins t x Hs a
     anchors-sound e =
@@ -175,8 +182,8 @@ module _ (t : Tank) (k : T (clear (tankFlaws t))) (x : Site) (Hs : ℕ) where
         let s : 1000 * max by-wind by-quake ≤ 19950 * A = leb-true _ _ (sym strength-is ∙ b .1) in
         record {
           spacing = leb-true _ _ (sym spacing-is ∙ b .0);
-          wind = strong-safe t k a n p (plus exact (whole 0)) M (omega (arith, rounded .safe)) (omega arith);
-          quake = strong-safe t k a n p (whole (x .moment)) (x .moment) (omega arith) (omega arith);
+          wind = strong-safe t k a n p (windWeight t) (wind-weight-in t k) (plus exact (whole 0)) M (omega (arith, rounded .safe)) (omega arith);
+          quake = strong-safe t k a n p (quakeWeight t x) (quake-weight-in t k x) (whole (x .moment)) (x .moment) (omega arith) (omega arith);
         }
 
     anchors-short : stands (Anchored checks) ≡ false → AnchorsMeet (marginsFor (t .diameter) Hs) t x Hs a → ⊥
@@ -186,8 +193,8 @@ module _ (t : Tank) (k : T (clear (tankFlaws t))) (x : Site) (Hs : ℕ) where
         go (inl f) = not-le-of-lt (leb-false _ _ (sym spacing-is ∙ f)) (m .spacing)
         go (inr f) =
             let s : 19950 * A < 1000 * max by-wind by-quake = leb-false _ _ (sym strength-is ∙ f) in
-            let w = strong-near t k a n p (plus exact (momentMargin (t .diameter) Hs)) M (moment-with-den t x Hs) (omega (arith, rounded .near)) (m .wind) in
-            let q = strong-near t k a n p (whole (x .moment)) (x .moment) (omega arith) (omega arith) (m .quake) in
+            let w = strong-near t k a n p (windWeight t) (wind-weight-in t k) (plus exact (momentMargin (t .diameter) Hs)) M (moment-with-den t x Hs) (omega (arith, rounded .near)) (m .wind) in
+            let q = strong-near t k a n p (quakeWeight t x) (quake-weight-in t k x) (whole (x .moment)) (x .moment) (omega arith) (omega arith) (m .quake) in
             omega (arith, s, w, q)
 
 -- ---- what the method does not touch: "Floors and margins are shared"

@@ -18,7 +18,7 @@ use Rattle.rules.specs.Hoop.{headOf, designHead, hoopExact, plateMargin, plateF
 use Rattle.rules.specs.Wind.{pressureExact, momentExact, momentMargin}
 use Rattle.rules.specs.declared.method.Method.{Method}
 use Rattle.rules.specs.declared.method.Method.the-variants.{D100, Api650}
-use Rattle.stability.specs.Anchors.{pullMargin}
+use Rattle.stability.specs.Anchors.{reducedWeight, pullMargin}
 use Rattle.stability.specs.Earthquake.{Carried, shellExact, capExact, rootMost, Resists, resistanceMargin}
 use Rattle.entries.specs.Sheet.{heightOf}
 use Rattle.entries.specs.declared.sheet.Tank.{Tank}
@@ -27,12 +27,12 @@ use Rattle.entries.specs.declared.sheet.Anchors.{Anchors}
 use Rattle.entries.specs.declared.sheet.Course.{Course}
 use Rattle.sheet.specs.Complete.{entriesOf, coursesOf}
 use Rattle.sheet.specs.declared.complete.Entries.{Entries}
-use Rattle.reports.specs.Figures.{needExactOn, bottomPlate, ResistsOn}
+use Rattle.reports.specs.Figures.{needExactOn, bottomPlate, ResistsOn, windWeight, quakeWeight}
 use Rattle.reports.specs.Meets.{Margins, noMargins, plateWith, CourseMeets, CoursesMeet, momentWith, SelfMeets, AnchorsMeet, MeetsWith, marginsOf}
 use Rattle.reports.specs.Pinned.{pinnedOn, sheets, expectedFigures, Edge, edges, EachEdge}
 
 pub pinned : map pinnedOn sheets ≡ expectedFigures
-unfolding shellExact capExact rootMost resistanceMargin headOf designHead hoopExact plateMargin pressureExact momentExact momentMargin pullMargin
+unfolding shellExact capExact rootMost resistanceMargin headOf designHead hoopExact plateMargin pressureExact momentExact momentMargin reducedWeight pullMargin
 pinned = refl
 
 -- ---- a test of the exact rules: met where it passes, and it passes where they are met
@@ -127,23 +127,29 @@ module _ (m : Margins) (t : Tank) (x : Site) (Hs : ℕ) where
   self-test k = yes-and windTest quakeTest (yes-leb (k .wind)) (carried-test _ _ _ _ _ (k .quake))
 
   module _ (a : Anchors) where
-    abbrev strongTest : Ratio → Bool
-    strongTest f =
+    abbrev strongTest : Ratio → Ratio → Bool
+    strongTest w f =
         let s = a .number * a .circle in
-        leb (1000 * (4800 * f .num * m .pull .den + m .pull .num * s * f .den))
-        ((19950 * stressArea (a .size) * s + 1000 * (t .weight * a .circle)) * (f .den * m .pull .den))
+        leb (1000 * (4800 * f .num * m .pull .den + m .pull .num * s * f .den) * w .den)
+        ((19950 * stressArea (a .size) * s * w .den + 1000 * (w .num * a .circle)) * (f .den * m .pull .den))
+
+    abbrev windPullTest : Bool
+    windPullTest = strongTest (windWeight t) M
+
+    abbrev quakePullTest : Bool
+    quakePullTest = strongTest (quakeWeight t x) (whole (x .moment))
 
     abbrev spacingTest : Bool
     spacingTest = leb (355 * a .circle) (1356000 * a .number)
 
-    anchors-met : T (spacingTest && strongTest M && strongTest (whole (x .moment))) → AnchorsMeet m t x Hs a
+    anchors-met : T (spacingTest && windPullTest && quakePullTest) → AnchorsMeet m t x Hs a
     anchors-met k =
-        let b = three-yes spacingTest (strongTest M) (strongTest (whole (x .moment))) k in
+        let b = three-yes spacingTest windPullTest quakePullTest k in
         record { spacing = leb-yes (b .0); wind = record { strong = leb-yes (b .1) }; quake = record { strong = leb-yes (b .2) } }
 
-    anchors-test : AnchorsMeet m t x Hs a → T (spacingTest && strongTest M && strongTest (whole (x .moment)))
+    anchors-test : AnchorsMeet m t x Hs a → T (spacingTest && windPullTest && quakePullTest)
     anchors-test k =
-        yes-three spacingTest (strongTest M) (strongTest (whole (x .moment))) (yes-leb (k .spacing)) (yes-leb (k .wind .strong)) (yes-leb (k .quake .strong))
+        yes-three spacingTest windPullTest quakePullTest (yes-leb (k .spacing)) (yes-leb (k .wind .strong)) (yes-leb (k .quake .strong))
 
 module _ (method : Method) (m : Margins) (e : Entries) where
   abbrev Hs : ℕ
@@ -155,8 +161,8 @@ module _ (method : Method) (m : Margins) (e : Entries) where
   abbrev anchorsTest : Bool
   anchorsTest =
       spacingTest m (e .tank) (e .site) Hs (e .anchors)
-      && strongTest m (e .tank) (e .site) Hs (e .anchors) (momentWith m (e .tank) (e .site) Hs)
-      && strongTest m (e .tank) (e .site) Hs (e .anchors) (whole (e .site .moment))
+      && windPullTest m (e .tank) (e .site) Hs (e .anchors)
+      && quakePullTest m (e .tank) (e .site) Hs (e .anchors)
 
   abbrev standingTest : Bool → Bool
   standingTest none = cond none selfTest anchorsTest
@@ -206,6 +212,6 @@ module _ (method : Method) where
       ((test-meets method (marginsOf (entriesOf (d .meets))) (entriesOf (d .meets)) (b .0), λ m. not-both outside (b .1) (meets-test method noMargins (entriesOf (d .breaks)) m)), each-edge ds (a .1))
 
 pub edges-hold : (method : Method) → EachEdge method (edges method)
-unfolding shellExact capExact rootMost resistanceMargin headOf designHead hoopExact plateMargin plateFloor pressureExact momentExact momentMargin stressArea pullMargin
+unfolding shellExact capExact rootMost resistanceMargin headOf designHead hoopExact plateMargin plateFloor pressureExact momentExact momentMargin stressArea reducedWeight pullMargin
 edges-hold D100 = each-edge D100 (edges D100) tt
 edges-hold Api650 = each-edge Api650 (edges Api650) tt

@@ -1,5 +1,5 @@
 -- The cases that document 01 marks ◆: "The example tank" with the figures changed that the case names, and what its
--- report then says; beside them the case of document 02, S-3. And the same tank with its anchors left out (document 02, S-1).
+-- report then says, its earthquake pull by document 02, S-5; beside them the case of S-3. And the same tank with its anchors left out (S-1).
 use mathlib.Core.List.{List, [], _∷_}
 use Prim.Native.Nat.{ℕ, _-_}
 use lib.IntN.{ℤ, pos, negℤ}
@@ -79,6 +79,9 @@ abbrev pub byStanding : (SelfChecks → Excerpt) → (AnchorChecks → Excerpt) 
 byStanding self anchored (SelfAnchored checks) = self checks
 byStanding self anchored (Anchored checks) = anchored checks
 
+abbrev pub windPull : Report → Excerpt
+windPull report = byStanding (λ checks. nothing) (λ checks. number (checks .«wind_pull»)) (report .standing)
+
 abbrev pub quakePull : Report → Excerpt
 quakePull report = byStanding (λ checks. nothing) (λ checks. number (checks .«quake_pull»)) (report .standing)
 
@@ -108,7 +111,9 @@ provedCases =
     ∷ case example (needOf 3) (number (pos 20))
     ∷ case (exampleWith 96 30000 (sixOn 14800)) pressure (number (pos 1800))
     ∷ case (exampleWith 97 30000 (sixOn 14800)) pressure (number (pos 1812))
-    ∷ case example quakePull (number (negℤ (pos 211)))
+    ∷ case example quakePull (number (negℤ (pos 191)))
+    -- "The wind pull is unchanged"
+    ∷ case example windPull (number (pos 2133))
     ∷ case (exampleWith 105 30000 (sixOn 22918)) spacing (word ok-word)
     ∷ case (exampleWith 105 30000 (sixOn 22919)) spacing (word short-word)
     ∷ case (exampleWith 105 74297 noAnchors) lift (word none-word)

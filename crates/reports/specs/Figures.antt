@@ -1,10 +1,10 @@
--- The figures of a sheet: each rule of document 01, that of hoop by either method (document 02, S-3), on what a sheet holds, rounded for the
--- report and exact for demand 3, side by side.
+-- The figures of a sheet: each rule of document 01, that of hoop by either method (document 02, S-3) and that of pull with the weight of each
+-- load (S-5), on what a sheet holds, rounded for the report and exact for demand 3, side by side.
 use Prim.Native.Nat.{ℕ, _-_}
 use lib.IntN.{ℤ}
-use Rattle.exact.specs.Quotient.{Ratio}
+use Rattle.exact.specs.Quotient.{Ratio, whole}
 use Rattle.fields.specs.Bolt.{stressArea}
-use Rattle.stability.specs.Anchors.{pullOf, Strong}
+use Rattle.stability.specs.Anchors.{reducedWeight, pullOf, Strong}
 use Rattle.stability.specs.Earthquake.{shellWeight, bottomWeight, resistanceOf, Resists}
 use Rattle.rules.specs.Hoop.{headOf, designHead, hoopExact, hoopNeed}
 use Rattle.rules.specs.Wind.{pressureOf, momentExact, momentOf}
@@ -47,10 +47,17 @@ resistanceOn tank site =
 unfoldable pub ResistsOn : Tank → Site → Ratio → Type 0
 ResistsOn tank site f = Resists (tank .weight) (site .vertical) (tank .diameter) (tank .level) (bottomPlate tank) (tank .fy) f
 
--- anchored: the net pull per anchor of a moment, and whether the anchors hold the unrounded pull of one, with a margin
-abbrev pub pullOn : Tank → Anchors → ℕ → ℤ
-pullOn tank anchors moment = pullOf moment (tank .weight) (anchors .circle) (anchors .number)
+-- anchored: the dead weight that resists uplift, in the wind and in an earthquake; with such a weight, the net pull per anchor of a moment,
+-- and whether the anchors hold the unrounded pull of one, with a margin
+abbrev pub windWeight : Tank → Ratio
+windWeight tank = whole (tank .weight)
 
-abbrev pub StrongOn : Tank → Anchors → Ratio → Ratio → Type 0
-StrongOn tank anchors moment margin =
-    Strong moment (tank .weight) (anchors .circle) (anchors .number) (stressArea (anchors .size)) margin
+abbrev pub quakeWeight : Tank → Site → Ratio
+quakeWeight tank site = reducedWeight (tank .weight) (site .vertical)
+
+abbrev pub pullOn : Anchors → Ratio → ℕ → ℤ
+pullOn anchors weight moment = pullOf moment weight (anchors .circle) (anchors .number)
+
+abbrev pub StrongOn : Anchors → Ratio → Ratio → Ratio → Type 0
+StrongOn anchors weight moment margin =
+    Strong moment weight (anchors .circle) (anchors .number) (stressArea (anchors .size)) margin

@@ -1,4 +1,4 @@
--- Demand 3 in fractions: document 01, the end of "The rules"; document 02, S-3. The exact rules take the fields only, nothing of the
+-- Demand 3 in fractions: document 01, the end of "The rules"; document 02, S-3 and S-5. The exact rules take the fields only, nothing of the
 -- report, and round nothing; one text serves every margin and either method for hoop need. Fractions are compared as whole numbers, their
 -- divisors multiplied out.
 use mathlib.Core.Path.{_≡_}
@@ -22,7 +22,7 @@ use Rattle.entries.specs.declared.sheet.Anchors.{Anchors}
 use Rattle.entries.specs.declared.sheet.Course.{Course}
 use Rattle.sheet.specs.Complete.{coursesOf}
 use Rattle.sheet.specs.declared.complete.Entries.{Entries}
-use Rattle.reports.specs.Figures.{needExactOn, momentExactOn, ResistsOn, StrongOn}
+use Rattle.reports.specs.Figures.{needExactOn, momentExactOn, ResistsOn, windWeight, quakeWeight, StrongOn}
 use Rattle.reports.specs.Report.{tankWord}
 use Rattle.reports.specs.declared.report.Judgement.{Judgement}
 
@@ -74,11 +74,12 @@ module _ (margins : Margins) (tank : Tank) where
       pub wind : 3600 * momentWith .num ≤ tank .weight * tank .diameter * momentWith .den
       pub quake : ResistsOn tank site (plus (record { num = 1000 * site .moment; den = 1540 }) (margins .resistance))
 
-    -- "N above 0: the spacing rule; and for this M and for Ms" the strength rule with m (`Strong` has the fraction)
+    -- "N above 0: the spacing rule; and for this M and for Ms" the strength rule with m (`Strong` has the fraction); "the reduced weight,
+    -- unrounded, for Ms, and W as before for M"
     pub record AnchorsMeet (anchors : Anchors) : Type 0 where
       pub spacing : 355 * anchors .circle ≤ 1356000 * anchors .number
-      pub wind : StrongOn tank anchors momentWith (margins .pull)
-      pub quake : StrongOn tank anchors (whole (site .moment)) (margins .pull)
+      pub wind : StrongOn anchors (windWeight tank) momentWith (margins .pull)
+      pub quake : StrongOn anchors (quakeWeight tank site) (whole (site .moment)) (margins .pull)
 
 -- All of the rules together: every course, and those of its way of standing.
 pub record Meets (method : Method) (margins : Margins) (tank : Tank) (site : Site) (anchors : Anchors) (courses : List Course) : Type 0 where

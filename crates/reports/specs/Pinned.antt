@@ -18,7 +18,7 @@ use Rattle.entries.specs.declared.sheet.Sheet.{Sheet}
 use Rattle.sheet.specs.Complete.{entriesOf, coursesOf}
 use Rattle.sheet.specs.declared.complete.Entries.{Entries}
 use Rattle.reports.specs.Cases.{exampleWith, sixOn, example, source002With}
-use Rattle.reports.specs.Figures.{needExactOn, momentExactOn, bottomPlate}
+use Rattle.reports.specs.Figures.{needExactOn, momentExactOn, bottomPlate, windWeight, quakeWeight}
 use Rattle.reports.specs.Meets.{noMargins, plateWith, momentWith, MeetsWith, marginsOf}
 
 infix 40 _over_
@@ -50,7 +50,8 @@ byCourse f y [] = []
 byCourse f y (course ∷ above) = f y course ∷ byCourse f (y + course .width) above
 
 -- 13 × h × D / (72 × s × E) of each course, by D100, then by API 650 with h - 1,200, or 0, for h; p × D × Hs × Hs / 345,600,000,000, p being
--- 6 × Kz × I × V × V / 390,625 or 1,800; wt, 2,712,000 × W × (10,000 - 4 × Av) / (710,000 × D); H × D / 11,250; 6,241 × tb × tb × Fy × H
+-- 6 × Kz × I × V × V / 390,625 or 1,800; wt, 2,712,000 × W × (10,000 - 4 × Av) / (710,000 × D); H × D / 11,250; 6,241 × tb × tb × Fy × H;
+-- the dead weight that resists uplift, W, and in an earthquake W × (10,000 - 4 × Av) / 10,000
 abbrev pub exactFigures : Entries → List Ratio
 exactFigures e =
     byCourse (needExactOn D100 (e .tank)) 0 (coursesOf e)
@@ -59,6 +60,8 @@ exactFigures e =
     ∷ shellExact (e .tank .weight) (e .site .vertical) (e .tank .diameter)
     ∷ capExact (e .tank .level) (e .tank .diameter)
     ∷ whole (rootMost (bottomPlate (e .tank)) (e .tank .fy) (e .tank .level))
+    ∷ windWeight (e .tank)
+    ∷ quakeWeight (e .tank) (e .site)
     ∷ []
 
 -- 1; D × Hs × Hs / 345,600,000,000 + 1; D × D / 72,000,000 + 1; 1
@@ -96,6 +99,8 @@ exampleExact =
     ∷ (295098144000000 over 10224000000)
     ∷ (414720000 over 11250)
     ∷ (404416800000000000 over 1)
+    ∷ (11000 over 1)
+    ∷ (108812000 over 10000)
     ∷ []
 
 abbrev pub exampleMargins : List Ratio
@@ -129,6 +134,8 @@ secondExact =
     ∷ (4881600000000000 over 42600710000)
     ∷ (1800030000 over 11250)
     ∷ (468075000000000000 over 1)
+    ∷ (200000 over 1)
+    ∷ (1800000000 over 10000)
     ∷ []
 
 abbrev pub secondMargins : List Ratio
@@ -166,7 +173,8 @@ pub record Edge : Type 0 where
   pub breaks : Sheet
 
 -- document 01's example without anchors, of another weight; the second tank with sixteen anchors and another plate to its lowest course;
--- the second tank without anchors, heavier and of another allowance to its bottom; and a slender tank in the strongest wind
+-- the second tank without anchors, heavier and of another allowance to its bottom; and a slender tank in the strongest wind, where the
+-- greatest Av makes no difference
 abbrev pub selfAnchored : ℕ → ℕ → Sheet
 selfAnchored W Ms =
     record {
@@ -188,7 +196,7 @@ slender W =
     let c : Course = record { width = 12800; plate = 188; allowance = 0; stress = 15000; efficiency = 85 } in
     record {
       tank = TankEntry.the-variants.Filled (record { diameter = 12000; level = 1200; weight = W; plate = 250; allowance = 0; fy = 36000 });
-      site = SiteEntry.the-variants.Filled (record { speed = 150; exposure = 150; importance = 125; vertical = 0; moment = 0 });
+      site = SiteEntry.the-variants.Filled (record { speed = 150; exposure = 150; importance = 125; vertical = 500; moment = 0 });
       anchors = AnchorsEntry.the-variants.Filled (record { number = 6; circle = 12000; size = 16 });
       courses = replicate 6 c ++ replicate 6 blankCourse;
       count = 6;
@@ -212,7 +220,7 @@ edges method =
     ∷ edge (selfAnchored 18352 188530) (selfAnchored 18352 188537)
     ∷ edge (rootLimited 48680805) (rootLimited 48680884)
     ∷ edge (slender 231680) (slender 231591)
-    ∷ edge (exampleWith 105 257557 (sixOn 14800)) (exampleWith 105 257577 (sixOn 14800))
+    ∷ edge (exampleWith 105 257191 (sixOn 14800)) (exampleWith 105 257210 (sixOn 14800))
     ∷ edge (exampleWith 105 30000 (sixOn 22918)) (exampleWith 105 30000 (sixOn 22919))
     ∷ []
 

@@ -1,4 +1,4 @@
--- The report on a sheet with tank, site and courses, by a method for hoop need: document 01, "The rules"; document 02, S-3.
+-- The report on a sheet with tank, site and courses, by a method for hoop need: document 01, "The rules"; document 02, S-3 and S-5.
 use mathlib.Core.Bool.{Bool, cond, _&&_}
 use mathlib.Core.List.{List, [], _∷_}
 use Prim.Native.Nat.{ℕ, _+_}
@@ -21,7 +21,7 @@ use Rattle.entries.specs.declared.sheet.Tank.{Tank}
 use Rattle.entries.specs.declared.sheet.Site.{Site}
 use Rattle.entries.specs.declared.sheet.Anchors.{Anchors}
 use Rattle.entries.specs.declared.sheet.Course.{Course}
-use Rattle.reports.specs.Figures.{needOn, pressureOn, momentOn, resistanceOn, pullOn}
+use Rattle.reports.specs.Figures.{needOn, pressureOn, momentOn, resistanceOn, windWeight, quakeWeight, pullOn}
 use Rattle.reports.specs.declared.report.CourseLine.{CourseLine}
 use Rattle.reports.specs.declared.report.SelfChecks.{SelfChecks}
 use Rattle.reports.specs.declared.report.AnchorChecks.{AnchorChecks}
@@ -60,11 +60,11 @@ selfChecks tank site M =
       quake = quakeVerdict (site .moment) T;
     }
 
--- N above 0: the pulls of M and of Ms, spacing, and strength by the larger pull
+-- N above 0: the pulls of M and, on the reduced weight, of Ms, spacing, and strength by the larger pull
 unfoldable pub anchorChecks : Tank → Site → Anchors → ℕ → AnchorChecks
 anchorChecks tank site anchors M =
-    let wind = pullOn tank anchors M in
-    let quake = pullOn tank anchors (site .moment) in
+    let wind = pullOn anchors (windWeight tank) M in
+    let quake = pullOn anchors (quakeWeight tank site) (site .moment) in
     record {
       «wind_pull» = wind;
       «quake_pull» = quake;

@@ -2,18 +2,18 @@
 -- of every comparison are below 2 ^ 53 with a capacity above 0.
 -- Assumes nothing.
 use Prim.Native.Nat.{ℕ, _+_, _-_, _*_, _≤_, _<_}
-use native.Mathlib.Nat.{add-le-add, le-min, lt-of-le-of-lt, max-le, mul-le-mul, mul-le-mul-left, mul-pos}
+use native.Mathlib.Nat.{add-le-add, le-min, lt-of-le-of-lt, max-le, mul-le-mul, mul-le-mul-left, mul-le-mul-right, mul-pos, sub-le}
 use native.Mathlib.Omega.{arith}
 use lib.Dec.{lit<}
 use lib.IntN.{ℤ}
-use Rattle.exact.specs.Quotient.{positivePart}
+use Rattle.exact.specs.Quotient.{Ratio, whole, positivePart}
 use Rattle.exact.specs.Sides.{Sides}
 use Rattle.exact.proofs.QuotientLaws.{down-safe, down-greatest}
 use Rattle.exact.proofs.RootLaws.{root-greatest}
 use Rattle.fields.specs.Range.{In}
 use Rattle.rules.specs.Bounds.{mostMoment}
-use Rattle.stability.specs.Anchors.{pullOf, largerPull}
-use Rattle.stability.specs.Bounds.{leastYield, mostBottom, mostPlate, mostPull, mostResistance, mostShell, mostYield}
+use Rattle.stability.specs.Anchors.{reducedWeight, pullOf, largerPull}
+use Rattle.stability.specs.Bounds.{WeightIn, leastYield, mostBottom, mostDown, mostPlate, mostPull, mostResistance, mostShell, mostUp, mostYield}
 use Rattle.stability.specs.Earthquake.{shellExact, shellWeight, rootMost, bottomRoot, capExact, bottomCap, bottomWeight, resistanceOf}
 use Rattle.stability.proofs.AnchorLaws.{pull-least, larger-is}
 use Rattle.stability.proofs.EarthquakeLaws.{root-fits}
@@ -36,9 +36,24 @@ unfolding resistanceOf
 resistance-most D wt wL d a b =
     omega (arith, down-safe (D * D * (wt + wL)) 144000000 (omega arith), mul-le-mul (mul-le-mul (d .1) (d .1)) (add-le-add a b))
 
-pub pull-most : (moment W B N : ℕ) → moment ≤ mostMoment → 0 < B → In 12 N → positivePart (pullOf moment W B N) ≤ mostPull
-pull-most moment W B N h b n =
-    pull-least moment W B N (omega arith) b mostPull (omega (arith, mul-le-mul (n .0) b))
+pub whole-weight-in : (W : ℕ) → In 3 W → WeightIn (whole W)
+whole-weight-in W h = omega arith
+
+pub reduced-weight-in : (W Av : ℕ) → In 3 W → WeightIn (reducedWeight W Av)
+unfolding reducedWeight
+reduced-weight-in W Av h = record { most = mul-le-mul (h .1) (sub-le 10000 _); parts = omega arith; most-parts = omega arith }
+
+pub up-most : (moment : ℕ) (w : Ratio) → moment ≤ mostMoment → WeightIn w → 4800 * moment * w .den ≤ mostUp
+up-most moment w h i = mul-le-mul (mul-le-mul-left 4800 h) (i .most-parts)
+
+pub down-most : (w : Ratio) (B : ℕ) → WeightIn w → In 13 B → w .num * B ≤ mostDown
+down-most w B i b = mul-le-mul (i .most) (b .1)
+
+pub pull-most : (moment : ℕ) (w : Ratio) (B N : ℕ) → moment ≤ mostMoment → 0 < w .den → 0 < B → In 12 N
+    → positivePart (pullOf moment w B N) ≤ mostPull
+pull-most moment w B N h o b n =
+    pull-least moment w B N o (omega arith) b mostPull
+    (omega (arith, mul-le-mul-right (w .den) h, mul-le-mul-left (w .den) (mul-le-mul (n .0) b)))
 
 pub larger-most : (a b : ℤ) → positivePart a ≤ mostPull → positivePart b ≤ mostPull → largerPull a b ≤ mostPull
 larger-most a b h k = rw larger-is (max-le h k)

@@ -8,6 +8,7 @@ mod method_leaves;
 mod print;
 mod question_leaves;
 mod rule_leaves;
+mod weight_leaves;
 
 use libc::STDIN_FILENO;
 ghost use Prim.Native.Nat.{_≤_, _<_};
@@ -62,7 +63,11 @@ fn answer(leaf: u64, a: u64, b: u64, c: u64, d: u64) {
         question_leaves::answer(leaf, a, b, c);
         return;
     }
-    method_leaves::answer(leaf, a, b);
+    if leaf < 51 {
+        method_leaves::answer(leaf, a, b);
+        return;
+    }
+    weight_leaves::answer(leaf, a, b, c, d);
 }
 
 // The digits from `from` on, and the byte that ends them.

@@ -1,4 +1,5 @@
-// The leaves of `rules` and `stability`, numbered from 20; those that take a method are in `method_leaves`.
+// The leaves of `rules` and `stability`, numbered from 20; those that take a method are in `method_leaves`, those
+// of a reduced weight in `weight_leaves`.
 use crate::clamp::field;
 use crate::clamp::figure;
 use crate::exact_leaves::signed;
@@ -7,6 +8,7 @@ use rules::hoop;
 use rules::wind;
 use rules::wind::SitePressure;
 use stability::anchors;
+use stability::anchors::DeadWeight;
 use stability::earthquake;
 
 pub(crate) fn answer(leaf: u64, a: u64, b: u64, c: u64, d: u64) {
@@ -138,7 +140,7 @@ fn quake(moment: u64, resistance: u64) {
 fn pull(moment: u64, weight: u64, circle: u64, count: u64) {
     print::signed(anchors::pull(
         figure(0, moment, 1000000000),
-        field(1, weight, 10000000),
+        DeadWeight::whole(field(1, weight, 10000000)),
         field(1, circle, 300000),
         field(6, count, 200),
     ));

@@ -1,4 +1,5 @@
--- What document 01 prints, "The example tank": its text, and that with its line for N = 0; and, by its rule, refusals.
+-- What document 01 prints, "The example tank": its text, with the earthquake pull of document 02, S-5, and that with its line for N = 0; and,
+-- by its rule, refusals.
 use mathlib.Core.List.{List, [], _∷_, _++_}
 use Prim.Native.Nat.{ℕ}
 use Rattle.fields.specs.declared.refusal.Refusal.{Refusal}
@@ -27,7 +28,7 @@ upToWind = ascii "course 1 59 188 250 ok\ncourse 2 40 188 250 ok\ncourse 3 20 18
 
 abbrev pub printedCases : List PrintedCase
 printedCases =
-    prints exampleBytes (upToWind ++ ascii "pull 2133 -211\nanchors spacing ok strength ok\ntank sound\n")
+    prints exampleBytes (upToWind ++ ascii "pull 2133 -191\nanchors spacing ok strength ok\ntank sound\n")
     ∷ prints (sheetBytes (exampleWith 105 30000 noAnchors)) (upToWind ++ ascii "self wind short resist 94646 none\ntank short\n")
     ∷ prints (sheetBytes (exampleWith 59 30000 noAnchors)) (ascii "refused 16 7\n")
     ∷ prints [] (ascii "refused 11\n")
