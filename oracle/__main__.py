@@ -16,6 +16,8 @@ sys.dont_write_bytecode = True
 
 from pathlib import Path
 
+import compressed
+import compression
 import document
 import figures
 import ground
@@ -53,11 +55,14 @@ def leaf_files():
     return {STDIN: stdin, STDOUT: stdout}
 
 
-RECORDS = {"": scripts, "judged_": judged, "held_": held}   # what a module's group names begin with
+RECORDS = {     # what a module's group names begin with
+    "": scripts, "judged_": judged, "held_": held, "compression_": compressed,
+}
 
 
 def all_groups():
-    """The scripts of steps and bytes, the judged sheets, the held ones: name to records."""
+    """The scripts of steps and bytes, the judged sheets, the held ones, those asked about
+    compression: name to records."""
     return {prefix + name: group for prefix, module in RECORDS.items()
             for name, group in module.group_records().items()}
 
@@ -74,6 +79,11 @@ def judged_counts():
     """Of all records that judge."""
     results = [result.judged for result in all_outcomes() if result.judged is not None]
     return judged.counted(result.word() for result in results)
+
+
+def asked_counts():
+    """Of all records that ask about compression."""
+    return compressed.counted(result.word for result in all_outcomes() if result.asked is not None)
 
 
 def record_parts():
@@ -110,7 +120,8 @@ def made_count(name, content):
     lines = f"{line_count} lines"
     counts = {
         SCRIPTS_STDIN: lambda: f"{len(all_records())} records",
-        SCRIPTS_STDOUT: lambda: f"{lines} (judged: {judged_counts()})",
+        SCRIPTS_STDOUT: lambda: f"{lines} (judged: {judged_counts()}; "
+                                f"compression: {asked_counts()})",
         MARKER_STDIN: lambda: "1 sheet",
         SHEETS_STDIN: sheets.sheets_summary,
         SHEETS_STDOUT: lambda: f"{lines} ({sheets.texts_summary()})",
@@ -180,6 +191,7 @@ def groups():
     for line in records.group_lines(all_groups()):
         print(line)
     print(f"judged: {judged_counts()}")
+    print(f"compression: {asked_counts()}; at random, self-anchored: {compressed.shares()}")
     print("marker: the one sheet of oracle/example.txt")
     for line in records.group_lines(sheets.group_cases()):
         print(f"sheets_{line}")
@@ -226,9 +238,10 @@ def main(arguments):
     if not __debug__:
         print("the oracle's checks are asserts: run it without -O", file=sys.stderr)
         return 2
-    self_test(document, ground, sheet, judging, text, figures, tries)
+    self_test(document, ground, sheet, judging, compression, text, figures, tries)
     if known is VECTOR_COMMANDS:
-        self_test(leaves, scripts, judged, held, sheets)    # over all vectors, which takes its time
+        # over all vectors, which takes its time
+        self_test(leaves, scripts, judged, held, compressed, sheets)
     return known[command](*operands)
 
 

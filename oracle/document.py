@@ -1,9 +1,9 @@
 """Document 01 ("Flat-bottom steel water tanks: the check sheet") as data and rules.
 
 Written from the document alone, with requests S-1, S-3, S-4 and S-5 of document 02 and the
-refusals of S-2, whose rules are ground.py's. Every figure is first an exact Fraction, then rounded
-as the document says. Letters (D, H, W, ...) are the document's; lengths are hundredths
-of an inch, plates mils, weights pounds, moments foot-pounds.
+refusals of S-2 and S-6, whose rules are ground.py's and compression.py's. Every figure is first
+an exact Fraction, then rounded as the document says. Letters (D, H, W, ...) are the document's;
+lengths are hundredths of an inch, plates mils, weights pounds, moments foot-pounds.
 """
 
 import struct
@@ -80,6 +80,7 @@ REFUSALS = {
     40: "Ss or S1 above 3,000",
     41: "a site class other than A to E",
     42: "a method other than D100 and API 650",
+    43: "self-anchored, and its lift is not none",
 }
 FIELD_REFUSAL = 16  # the only one that gives a field
 
@@ -431,7 +432,7 @@ def self_test():
 
     # data
     assert list(FIELD_RANGES) == list(range(1, 20))
-    assert list(REFUSALS) == [*range(11, 20), *range(30, 39), 40, 41, 42]
+    assert list(REFUSALS) == [*range(11, 20), *range(30, 39), 40, 41, 42, 43]
     assert [n for n in range(8) if field_in_range(ANCHORS_FIELD, n)] == [0, 6, 7]
 
     # ties to even: they need a side of 2**53 or more (see leaves.quotient_edges)

@@ -1,10 +1,11 @@
 """The leaf vectors: lines `LEAF A B C D` for the program under test, and its expected lines.
 
 Each leaf has the domain of its arguments, its answer (from document.py; leaf 40's
-from ground.py), the documents' own figures for it (document 01's; request S-2's for
-leaf 40, S-3's for leaf 50, S-5's for leaves 51 and 52), and its edges: points at
-equality or at a whole quotient with those one to either side. The two ends of each
-range, combined, and random points with a fixed seed come from the domain.
+from ground.py, those of leaves 53 to 55 from compression.py), the documents' own figures
+for it (document 01's; request S-2's for leaf 40, S-3's for leaf 50, S-5's for leaves 51
+and 52), and its edges: points at equality or at a whole quotient with those one to either
+side. The two ends of each range, combined, and random points with a fixed seed come from
+the domain; the leaves of S-6 (7, 8 and 53 to 55), for want of room, take no such ends.
 """
 
 from fractions import Fraction
@@ -13,6 +14,7 @@ from math import ceil, floor, gcd, prod
 from random import Random
 from typing import Callable, NamedTuple
 
+import compression
 import document as doc
 import ground
 
@@ -21,13 +23,14 @@ ARGUMENTS = 4          # on a line; the unused ones are 0
 RANDOM_POINTS = 220    # new ones for each leaf that does not say another number
 USUAL_POINTS = 60      # more of them, where only a part of the domain is of interest
 EDGE_DRAWS = 30        # for each kind of edge
-WHOLE_DOMAIN = 420     # a domain up to this size is taken whole; leaf 12's has just this many
+WHOLE_DOMAIN = 440     # a domain up to this size is taken whole; leaf 12's has just this many
 
 # --- Ranges -------------------------------------------------------------------
 
 SIGN = (0, 1)                               # 1 means minus
 BYTE = (0, 255)
 U32 = (0, 2**32 - 1)
+U64 = (0, 2**64 - 1)
 WORD = (0, 18_446_744_073_709_551_609)      # "all below 18446744073709551610"
 SIZE = (0, 2**63 - 1)
 SIDE = (0, doc.SIDE_LIMIT - 1)              # of a comparison
@@ -58,6 +61,9 @@ PARTS = 10_000                              # of a pound, in which leaves 51 and
 WEIGHT_PARTS = (0, PARTS * W[1])
 MAPPED = (0, ground.MOST_MAPPED)            # Ss or S1, where it is not refused
 CLASSES = tuple(map(ord, ground.CLASSES))
+NET = (1, PLATE[1])                         # a course's plate less its allowance
+COEFFICIENT = (0, compression.MOST_COEFFICIENT)
+HALF = 2**32                                # one more than a half of leaf 7's or 8's answer holds
 
 # Numbers that are no method's: beside the two; such as a narrower or a signed type would take for
 # one of them or its negative; the digits' ASCII codes; 100 and 650.
@@ -89,6 +95,11 @@ def in_parts(pounds):
     parts = PARTS * pounds
     assert parts.denominator == 1
     return parts.numerator
+
+
+def halves(number):
+    """Of 32 bits, but that the first one may be longer."""
+    return " ".join(map(decimal, divmod(number, HALF)))
 
 
 def hexadecimal(bits):
@@ -130,6 +141,11 @@ def ends(limits):
     least, greatest = limits
     inner = (least, least + 1, greatest - 1, greatest)
     return sorted({figure for figure in inner if least <= figure <= greatest})
+
+
+def no_ends(_limits):
+    """Where the edges have those that are worth a line."""
+    return ()
 
 
 def even_draw(rng, limits):
@@ -681,6 +697,123 @@ def method_edges(rng):
             yield method, h
 
 
+# --- Edges of the long divisions ----------------------------------------------
+
+MOST_A, MOST_B = U64[1], U32[1]
+
+
+def long_extremes():
+    return ((0, 0, 1, 1), (0, MOST_B, MOST_B, MOST_B), (1, 0, 1, 7), (1, 1, 1, 1), (1, 1, 2, 1),
+            (1, 1, MOST_B, MOST_B), (MOST_A, 1, 1, 1), (MOST_A, MOST_B, 1, 1),
+            (MOST_A, MOST_B, MOST_B, 1), (MOST_A, MOST_B, MOST_B, MOST_B),
+            (MOST_A, 1, MOST_B, MOST_B), (MOST_A, MOST_B, 1, 2))
+
+
+def long_carries():
+    """Between the halves of the product and of the quotient; whole quotients, and one past."""
+    yield from ((HALF - 1, 1, 1, 1), (HALF, 1, 1, 1), (HALF - 1, HALF - 1, 1, 1),
+                (HALF + 1, HALF - 1, 1, 3))
+    for b, c, d in ((MOST_B, 65_537, 257), (35, 6, 5)):
+        for a in beside(c * d * 123_456_789):
+            yield a, b, c, d
+
+
+def long_all_ones():
+    """The low half of the quotient is all ones and something is left over, so that rounding up
+    carries into the high one. No b is as large as c d."""
+    for high, b, c, d in ((0, 1, 2**7, 2), (1, 1, 2, 1), (2, 1, 1, 3), (5, 10, 7, 9),
+                          (2**20 - 1, 1, 2**11, 2), (2**31 - 1, MOST_B, 2**31, 3)):
+        too_much = (high + 1) * HALF * c * d
+        yield (too_much - 1) // b, b, c, d
+
+
+def long_edges(_rng):
+    yield from long_extremes()
+    yield from long_carries()
+    yield from long_all_ones()
+
+
+# --- Edges of the compression leaves ------------------------------------------
+
+
+def entry_edges(_rng):
+    """Every entry, and places past the last one."""
+    past = compression.LAST_ENTRY + 1
+    for i in (*range(past), past, 1_000, 2**32, 2**32 + 1, U64[1]):
+        yield (i,)
+
+
+def water_for(i, diameter, t):
+    """The least H with an argument of so many ten-thousandths."""
+    return ceil(i / (compression.ARGUMENT_PARTS * compression.exact_argument(1, diameter, t)))
+
+
+def whole_arguments():
+    """H, D and t with an argument of just i ten-thousandths, for each i that t = 433 k and
+    H = 433 h reach: h (D / 400 k) (D / 400 k) is then 870 i."""
+    for i in range(1, compression.LAST_ENTRY + 1):
+        for h, k in product(range(3, 178), range(1, 5)):
+            root = doc.greatest_root(1, 870 * i * h)
+            if root * root == 870 * i * h and 400 * k * root % h == 0:
+                diameter = 400 * k * root // h
+                if D[0] <= diameter <= D[1]:
+                    yield i, (433 * h, diameter, 433 * k)
+
+
+# Past 640, and 433, which other plates reach as well.
+MORE_WHOLE_ARGUMENTS = {433: (3_480, 12_000, 60), 866: (1_740, 12_000, 30)}
+
+
+def argument_edges(rng):
+    yield from product(H, D, NET)
+    whole = {**dict(whole_arguments()), **MORE_WHOLE_ARGUMENTS}
+    for i in (10, 24, 125, 320, 433, 640, 866):
+        level, diameter, t = whole[i]
+        yield from ((level, diameter, t), (level - 1, diameter, t), (level + 1, diameter, t),
+                    (level, diameter - 1, t), (level, diameter, t + 1))
+    for i in (1, 2, 639, 640, 641) * 3:
+        level = 0
+        while not H[0] < level <= H[1]:
+            diameter, t = even_draw(rng, D), even_draw(rng, NET)
+            level = water_for(i, diameter, t)
+        yield level - 1, diameter, t
+        yield level, diameter, t
+
+
+ELASTIC_EQUALITY = (1_943, 125_000)         # t and D; the only one
+INELASTIC_EQUALITIES = ((750, 12_000), (1_001, 16_016), (2_000, 32_000))
+TOLD_APART = (372, 868, 1_389)              # with these e the two sides of the first one differ
+WHOLE_ALLOWED = (           # t, D and e with an exact allowed stress of whole psi
+    (160, 12_500, 5_528), (2_000, 156_250, 5_528),                                  # elastic
+    (731, 33_456, 0), (1_135, 30_960, 0), (480, 15_328, 1_765), (1_645, 30_100, 100),
+    (1_000, 13_330, 100), (1_200, 14_964, 5_440), (1_750, 17_980, 480),             # plastic
+)
+NEARLY_WHOLE_ALLOWED = (    # less than a part in 100,000 of a psi off
+    (1_615, 154_935, 0), (975, 63_523, 0), (348, 25_987, 6_538), (729, 131_066, 1_402),
+    (1_636, 58_419, 0), (1_313, 28_634, 0), (1_174, 30_667, 56), (1_080, 18_044, 2_453),
+    (1_689, 12_237, 6_633), (1_826, 25_644, 2_692),
+)
+
+
+def allowed_edges(rng):
+    yield from product(NET, D, (0, 1, COEFFICIENT[1]))
+    for equality in (ELASTIC_EQUALITY, *INELASTIC_EQUALITIES):
+        for (t, diameter), e in zip(neighbours(*equality), cycle((0, 1, COEFFICIENT[1]))):
+            yield t, diameter, e
+        for e in (0, COEFFICIENT[1], even_draw(rng, COEFFICIENT)):
+            yield *equality, e
+    for e in TOLD_APART:
+        yield *ELASTIC_EQUALITY, e
+    for diameter in (12_000, 60_000, 128_600):
+        t = floor(diameter * compression.MOST_ELASTIC * 5)
+        for near, e in product((t, t + 1), (0, even_draw(rng, COEFFICIENT))):
+            yield near, diameter, e
+    for t, diameter, e in WHOLE_ALLOWED:
+        yield from ((t, diameter, e), (t, diameter, e + 1), (t, diameter, e - 1),
+                    (t, diameter + 1, e), (t - 1, diameter, e))
+    yield from NEARLY_WHOLE_ALLOWED
+
+
 # --- The leaves ---------------------------------------------------------------
 
 
@@ -932,6 +1065,47 @@ LEAVES = {
         random=30,
         ends=tuple,     # no more than the two themselves
     ),
+    7: Leaf(
+        (U64, U32, from_one(U32), from_one(U32)),
+        lambda a, b, c, d: halves(doc.rounded_down(a * b, c * d)),
+        ((28_800 * 14_400**2, 433, 139_200_000, 250**2),),
+        long_edges,
+        random=6,
+        ends=no_ends,
+    ),
+    8: Leaf(
+        (U64, U32, from_one(U32), from_one(U32)),
+        lambda a, b, c, d: halves(doc.rounded_up(a * b, c * d)),
+        ((113 * 11_000 * 2_527 * 14_400 + 1_355_745_000 * 30_000, 8, 71 * 250 * 12,
+          14_400 * 1_200),),
+        long_edges,
+        random=6,
+        ends=no_ends,
+    ),
+    53: Leaf(
+        (U64,),
+        lambda i: decimal(compression.entry(i)),
+        ((297,),),
+        entry_edges,
+        random=0,
+        ends=no_ends,
+    ),
+    54: Leaf(
+        (H, D, NET),
+        lambda level, diameter, t: decimal(compression.argument(level, diameter, t)),
+        ((28_800, 14_400, 250),),
+        argument_edges,
+        random=12,
+        ends=no_ends,
+    ),
+    55: Leaf(
+        (NET, D, COEFFICIENT),
+        lambda t, diameter, e: decimal(compression.allowed(t, diameter, e)),
+        ((250, 14_400, 0), (250, 14_400, 3_753)),
+        allowed_edges,
+        random=16,
+        ends=no_ends,
+    ),
 }
 
 # --- Points and lines ---------------------------------------------------------
@@ -992,7 +1166,7 @@ def as_bytes(lines):
     return "".join(line + "\n" for line in lines).encode("ascii")
 
 
-# --- Self test: leaves 12, 50, 51 and 52 --------------------------------------
+# --- Self test: leaves 12, 50, 51 and 52, and those of S-6 --------------------
 
 
 def check_refusals():
@@ -1000,7 +1174,7 @@ def check_refusals():
     places, fields = (range(least, greatest + 1) for least, greatest in LEAVES[12].domain)
     assert len(places) == len(doc.REFUSALS) and len(fields) == 1 + len(doc.FIELD_RANGES)
     assert sorted(leaf_points(12)) == list(product(places, fields))
-    assert answer("12 20 7 0 0") == "refused 42 0"
+    assert answer("12 20 7 0 0") == "refused 42 0" and answer("12 21 7 0 0") == "refused 43 0"
 
 
 def check_methods():
@@ -1039,7 +1213,91 @@ def check_lighter_tanks():
     assert min(map(kinds.count, product((False, True), repeat=3))) >= 10
 
 
+def check_long_divisions():
+    """The answers spelled out. Rounding up is one more unless the quotient is whole; there are
+    such, with a high half and without, and many that carry between the halves."""
+    for line, text in (("7 18446744073709551615 4294967295 1 1", "18446744069414584319 1"),
+                       ("7 8589934591 1 2 1", "0 4294967295"), ("8 8589934591 1 2 1", "1 0"),
+                       ("8 1 1 4294967295 4294967295", "0 1"),
+                       ("7 1 1 4294967295 4294967295", "0 0"),
+                       ("8 0 4294967295 4294967295 4294967295", "0 0")):
+        assert answer(line) == text, (line, text)
+    points = [*long_edges(None), *leaf_points(7), *leaf_points(8)]
+    assert {*long_edges(None)} <= {*leaf_points(7)} & {*leaf_points(8)}
+    kinds = []
+    for a, b, c, d in points:
+        quotient, rest = divmod(a * b, c * d)
+        down, up = (answer(leaf_line(number, (a, b, c, d))) for number in (7, 8))
+        assert down == halves(quotient) and up == halves(quotient + (rest > 0))
+        kinds.append((quotient >= HALF, rest == 0))
+    assert min(map(kinds.count, product((False, True), repeat=2))) >= 4
+    for a, b, c, d in long_all_ones():
+        quotient, rest = divmod(a * b, c * d)
+        assert quotient % HALF == HALF - 1 and rest > 0
+    assert all(30 <= len(leaf_points(number)) <= 40 for number in (7, 8))
+
+
+def check_entries():
+    """All of the chart, and the last entry past it."""
+    asked = [i for i, in leaf_points(53)]
+    assert {*range(641), 641, 1_000, 2**32, 2**32 + 1, 2**64 - 1} == {*asked}
+    for i in asked:
+        told = compression.CHART[i] if i <= 640 else 7_153
+        assert answer(leaf_line(53, (i,))) == decimal(told)
+
+
+def check_arguments():
+    """Whole ones with those just below, around the last entry's and far above; all are as whole
+    numbers give them."""
+    exact = []
+    for level, diameter, t in leaf_points(54):
+        argument = compression.ARGUMENT_PARTS * compression.exact_argument(level, diameter, t)
+        assert answer(leaf_line(54, (level, diameter, t))) \
+            == decimal(compression.whole_argument(level, diameter, t)) == decimal(floor(argument))
+        exact.append(argument)
+    wholes = [argument for argument in exact if argument.denominator == 1]
+    assert {10, 24, 125, 320, 433, 640, 866} <= {*wholes}
+    for whole in wholes:
+        assert any(0 < whole - argument < 1 for argument in exact)
+    for near in (639, 640, 641):
+        assert sum(floor(argument) == near for argument in exact) >= 3, near
+    assert min(exact) < 1 and max(exact) > 2**33
+    assert {1, 2_000} <= {t for *_rest, t in leaf_points(54)}
+
+
+def check_allowed():
+    """Every branch with every e that matters; whole psi, and just above and below them; as whole
+    numbers give it. Of the elastic branch's last point the other branch would tell another
+    figure."""
+    kinds = []
+    for t, diameter, e in leaf_points(55):
+        exact = compression.exact_allowed(t, diameter, e)
+        assert answer(leaf_line(55, (t, diameter, e))) \
+            == decimal(compression.whole_allowed(t, diameter, e)) == decimal(floor(exact))
+        off = exact - round(exact)
+        near = "whole" if off == 0 else "off" if abs(off) > Fraction(1, 100_000) \
+            else "above" if off > 0 else "below"
+        kinds.append((compression.branch(t, diameter), near))
+        kinds.append((compression.branch(t, diameter), min(e, 2) if e < COEFFICIENT[1] else "most"))
+    for kind in product(compression.BRANCHES, ("whole", "above", "below", 0, 1, 2, "most")):
+        assert kinds.count(kind) >= 1, kind
+    ratio = compression.slenderness(*ELASTIC_EQUALITY)
+    assert ratio == compression.MOST_ELASTIC
+    for e in TOLD_APART:
+        helped = compression.pressure_help(*ELASTIC_EQUALITY,
+                                           Fraction(e, compression.COEFFICIENT_PARTS))
+        wrong = Fraction("1.333") * (compression.F_L["inelastic"](ratio) + helped)
+        assert floor(wrong) != compression.allowed(*ELASTIC_EQUALITY, e)
+    assert all(compression.slenderness(*equality) == compression.MOST_INELASTIC
+               for equality in INELASTIC_EQUALITIES)
+    assert all(compression.exact_allowed(*point).denominator == 1 for point in WHOLE_ALLOWED)
+
+
 def self_test():
     check_refusals()
     check_methods()
     check_lighter_tanks()
+    check_long_divisions()
+    check_entries()
+    check_arguments()
+    check_allowed()

@@ -6,25 +6,30 @@ Each record has one line: the answer's word, and then the sheet after it, the le
 the report, which beside a refusal is one stated value. MARK and JUDGE judge what READ and
 FORGE would make the current sheet, JUDGE_HELD judges the current one; all three leave that
 as it is. The method is the last figure of JUDGE, after those of FORGE, and the only one of
-JUDGE_HELD; MARK judges by D100.
+JUDGE_HELD; MARK judges by D100. COMPRESSION and COMPRESSION_HELD ask request S-6's question with
+the figures of JUDGE and JUDGE_HELD, and leave the current sheet as it is too; their line is the
+answer alone.
 """
 
 import struct
 from typing import NamedTuple
 
+import compression
 import document as doc
 import judging
 import sheet as model
-from leaves import hexadecimal, verdict_text
+from leaves import hexadecimal, verdict_text, yes_or_no
 
 MOST_BUFFER = 512
 MOST_READ = 700
 
 # --- Records ------------------------------------------------------------------
 
-NEW, TANK, SITE, ANCHORS, COURSE, WRITE, READ, FORGE, MARK, JUDGE, JUDGE_HELD = range(11)
+NEW, TANK, SITE, ANCHORS, COURSE, WRITE, READ, FORGE, MARK, JUDGE, JUDGE_HELD, COMPRESSION, \
+    COMPRESSION_HELD = range(13)
 OPENING = (NEW, READ, FORGE)            # these set the current sheet
 JUDGING = (MARK, JUDGE, JUDGE_HELD)     # these have a report
+ASKING = (COMPRESSION, COMPRESSION_HELD)    # these have a reply on compression
 STEPS = {TANK: model.TANK, SITE: model.SITE, ANCHORS: model.ANCHORS, COURSE: model.COURSE}
 
 
@@ -104,6 +109,14 @@ def judge(sheet, method=doc.D100):
 
 def judge_held(method=doc.D100):
     return figures_record(JUDGE_HELD, (method,))
+
+
+def ask(sheet, method=doc.D100):
+    return judge(sheet, method)._replace(opcode=COMPRESSION)
+
+
+def ask_held(method=doc.D100):
+    return judge_held(method)._replace(opcode=COMPRESSION_HELD)
 
 
 def to_judge(record):
@@ -189,6 +202,12 @@ def report_text(report):
 
 NO_REPORT_TEXT = report_text(judging.NO_REPORT)
 
+
+def reply_word(reply):
+    return f"stress {reply.stress} allowed {reply.allowed} holds {yes_or_no(reply.holds)}"
+
+
+
 # --- Outcomes -----------------------------------------------------------------
 
 
@@ -202,11 +221,19 @@ class Judged(NamedTuple):
         return "refused" if self.refusal is not None else judging.word(self.report)
 
 
+class Asked(NamedTuple):
+    sheet: model.Sheet          # the one asked about
+    method: int
+    refusal: tuple | None
+    reply: compression.Reply | None
+
+
 class Outcome(NamedTuple):
     word: str                       # the answer, without what follows it
     text: str                       # the rest of the line
     sheet: model.Sheet              # the current one after the record
     judged: Judged | None = None    # by a record of JUDGING
+    asked: Asked | None = None      # by a record of ASKING
 
     def line(self):
         return self.word + self.text
@@ -225,16 +252,30 @@ def sheet_outcome(word, sheet):
     return Outcome(word, sheet_text(sheet), sheet)
 
 
+def in_question(sheet, record):
+    """The sheet and the method; where no sheet is handed in, it is the current one."""
+    *figures, method = model.bytes_as_figures(record.payload)
+    return forged(tuple(figures)) if figures else sheet, method
+
+
 def judged_by(sheet, record):
     """The sheet is the current one; to MARK and JUDGE it makes no difference."""
     if record.opcode == MARK:
         read_sheet, answer = judging.mark(record.payload)
         return Judged(read_sheet, doc.D100, *answer)
-    figures = model.bytes_as_figures(record.payload)
-    method = figures[-1]
-    if record.opcode == JUDGE:
-        sheet = forged(figures[:-1])
+    sheet, method = in_question(sheet, record)
     return Judged(sheet, method, *judging.judge(sheet, method))
+
+
+def asked_by(sheet, record):
+    """The same of a record of ASKING."""
+    sheet, method = in_question(sheet, record)
+    return Asked(sheet, method, *compression.ask(sheet, method))
+
+
+def asked_outcome(sheet, asked):
+    word = refusal_word(*asked.refusal) if asked.reply is None else reply_word(asked.reply)
+    return Outcome(word, "", sheet, asked=asked)
 
 
 def judged_outcome(sheet, judged):
@@ -247,6 +288,8 @@ def outcome_on(sheet, record):
     opcode, payload = record
     if opcode in JUDGING:
         return judged_outcome(sheet, judged_by(sheet, record))
+    if opcode in ASKING:
+        return asked_outcome(sheet, asked_by(sheet, record))
     if opcode == NEW:
         return sheet_outcome("held", model.EMPTY)
     if opcode == READ:

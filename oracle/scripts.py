@@ -15,9 +15,10 @@ import document as doc
 import example
 import sheet as model
 from records import (
-    ANCHORS, COURSE, FORGE, JUDGE, JUDGE_HELD, JUDGING, MOST_BUFFER, MOST_READ, OPENING, READ,
-    SITE, STEPS, TANK, WRITE, anchors, course, figures_record, forge, forged, in_turn,
-    lent_buffer, new, outcomes, read, refusal_word, sheet_text, site, tank, write,
+    ANCHORS, ASKING, COMPRESSION, COMPRESSION_HELD, COURSE, FORGE, JUDGE, JUDGE_HELD, JUDGING,
+    MOST_BUFFER, MOST_READ, OPENING, READ, SITE, STEPS, TANK, WRITE, anchors, course,
+    figures_record, forge, forged, in_turn, lent_buffer, new, outcomes, read, refusal_word,
+    sheet_text, site, tank, write,
 )
 
 LEAST_RECORDS = 2_500
@@ -1383,15 +1384,18 @@ def check_write(record, result):
 
 
 def check_judged(before, record, result):
-    """Judging leaves the current sheet as it is; JUDGE_HELD judges that one."""
+    """Judging and asking leave the current sheet as it is; the held one is that one."""
     assert result.sheet == before
-    assert record.opcode != JUDGE_HELD or result.judged.sheet == before
+    if record.opcode in (JUDGE_HELD, COMPRESSION_HELD):
+        assert (result.judged or result.asked).sheet == before
 
 
 def check_unstated(before, record, result):
     """38 is said of a sheet whose anchors are unstated, and by these records alone."""
-    asked = before if result.judged is None else result.judged.sheet
-    assert asked.anchors is None and record.opcode in (WRITE, JUDGE, JUDGE_HELD)
+    question = result.judged or result.asked
+    about = before if question is None else question.sheet
+    assert about.anchors is None
+    assert record.opcode in (WRITE, JUDGE, JUDGE_HELD, COMPRESSION, COMPRESSION_HELD)
 
 
 def check_outcome(before, record, result):
@@ -1404,7 +1408,7 @@ def check_outcome(before, record, result):
         assert result.sheet == before
     if record.opcode == WRITE:
         check_write(record, result)
-    if record.opcode in JUDGING:
+    if record.opcode in JUDGING + ASKING:
         check_judged(before, record, result)
     if record.opcode not in OPENING:
         assert before.anchors is None or result.sheet.anchors is not None

@@ -1,3 +1,6 @@
 pub mod Quotient
+pub mod Fraction
+pub mod Greatest
 pub mod Root
 pub mod Sides
+pub mod Wide

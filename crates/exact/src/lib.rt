@@ -1,10 +1,11 @@
-// Whole-number arithmetic that loses nothing: quotients rounded to a stated side, the greatest root,
-// and the one f64 nearest to a quotient.
+// Whole-number arithmetic that loses nothing: quotients rounded to a stated side, past 64 bits too, the greatest
+// root, and the one f64 nearest to a quotient.
 mod float;
 mod quotient;
 mod ratio;
 mod root;
 mod sign;
+mod wide;
 
 pub use float::bits;
 pub use quotient::down;
@@ -14,3 +15,4 @@ pub use ratio::nearest;
 pub use root::greatest_root;
 pub use sign::magnitude;
 pub use sign::positive_part;
+pub use wide::Wide;

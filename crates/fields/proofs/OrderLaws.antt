@@ -13,7 +13,7 @@ use Rattle.fields.specs.Refusal.{plain, codeOf}
 use Rattle.fields.specs.declared.refusal.Code.{Code}
 use Rattle.fields.specs.declared.refusal.Refusal.{Refusal}
 use Rattle.fields.proofs.RefusalLaws.{never-zero}
-use Rattle.fields.specs.Order.{Condition, firstOf, andThen, orElse, at, First, accepts, clear, answerCode, firstCode}
+use Rattle.fields.specs.Order.{Condition, firstOf, andThen, orElse, replyUnless, at, First, accepts, clear, answerCode, firstCode}
 use Rattle.fields.specs.declared.answer.Answer.{Answer}
 use Rattle.fields.specs.declared.answer.Answer.the-variants.{Accepted, Refused}
 
@@ -157,3 +157,31 @@ coded cs e = (e, ap answerCode e ∙ first-code cs)
 pub accepted-code : (a : Answer) → answerCode a ≡ plain 0 → a ≡ Accepted
 accepted-code Accepted e = refl
 accepted-code (Refused r) e = absurd (subst T (sym (ap (λ (p : Code). eqb (p .number) 0) e) ∙ never-zero r) tt)
+
+-- Of a reply that an order decides, where a value is no refusal and no two refusals are one.
+pub record Replies {A X : Type 0} (given : A → X) (refused : Refusal → X) : Type 1 where
+  pub apart : {Z : Type 0} {v : A} {r : Refusal} → given v ≡ refused r → Z
+  pub same : {r q : Refusal} → refused r ≡ refused q → r ≡ q
+
+module _ {A X : Type 0} {given : A → X} {refused : Refusal → X} (k : Replies given refused) (v : A) where
+  pub reply-refused : (a : Answer) (r : Refusal) → (replyUnless given refused a v ≡ refused r) ↔ (a ≡ Refused r)
+  reply-refused Accepted r = (λ e. k .apart e, λ e. clash (sym e))
+  reply-refused (Refused q) r = (λ e. ap Refused (k .same e), λ e. ap refused cc)
+
+  given-as : (a : Answer) → (replyUnless given refused a v ≡ given v) ↔ (a ≡ Accepted)
+  given-as Accepted = (λ e. refl, λ e. refl)
+  given-as (Refused r) = (λ e. k .apart (sym e), clash)
+
+  -- each refusal exactly under its condition with none before it,
+  pub reply-refused-exactly : (cs : List Condition) (r : Refusal) → (replyUnless given refused (firstOf cs) v ≡ refused r) ↔ First cs r
+  reply-refused-exactly cs r =
+      let f = first-exactly cs r in
+      let g = reply-refused (firstOf cs) r in
+      (λ e. f .0 (g .0 e), λ h. g .1 (f .1 h))
+
+  -- and the value exactly where no condition applies
+  pub reply-given-exactly : (cs : List Condition) → (replyUnless given refused (firstOf cs) v ≡ given v) ↔ ((j : ℕ) → j < length cs → at cs j .applies ≡ false)
+  reply-given-exactly cs =
+      let f = none-exactly cs in
+      let g = given-as (firstOf cs) in
+      (λ e. f .0 (g .0 e), λ h. g .1 (f .1 h))

@@ -33,6 +33,11 @@ andThen (Refused r) later = Refused r
 abbrev pub orElse : Answer → Condition → Answer
 orElse a c = andThen a (cond (c .applies) (Refused (c .refusal)) Accepted)
 
+-- a reply that an order decides: a value, or the refusal
+abbrev pub replyUnless : {A X : Type 0} → (A → X) → (Refusal → X) → Answer → A → X
+replyUnless given refused Accepted v = given v
+replyUnless given refused (Refused r) v = refused r
+
 -- The law of every order (`first-exactly`): the answer is the refusal r exactly where some place of the order has r, its condition
 -- applies, and none before it does.
 abbrev pub at : List Condition → ℕ → Condition

@@ -3,7 +3,7 @@
 use Prim.Native.Nat.{ℕ}
 use Rattle.fields.specs.declared.refusal.Code.{Code}
 use Rattle.fields.specs.declared.refusal.Refusal.{Refusal}
-use Rattle.fields.specs.declared.refusal.Refusal.the-variants.{TooFewBytes, TooManyBytes, BadLength, BadVersion, BadCount, OutOfRange, AllowanceNotBelowPlate, BadAnchors, BufferTooShort, Unreachable, TankStated, NoTank, CoursesFull, ShellTooHigh, NoCourse, NoSite, WaterAboveShell, AnchorsUnstated, FigureOutOfRange, BadSiteClass, BadMethod}
+use Rattle.fields.specs.declared.refusal.Refusal.the-variants.{TooFewBytes, TooManyBytes, BadLength, BadVersion, BadCount, OutOfRange, AllowanceNotBelowPlate, BadAnchors, BufferTooShort, Unreachable, TankStated, NoTank, CoursesFull, ShellTooHigh, NoCourse, NoSite, WaterAboveShell, AnchorsUnstated, FigureOutOfRange, BadSiteClass, BadMethod, ShellUplift}
 
 -- the number alone
 abbrev pub plain : ℕ → Code
@@ -31,3 +31,4 @@ codeOf AnchorsUnstated = plain 38
 codeOf FigureOutOfRange = plain 40
 codeOf BadSiteClass = plain 41
 codeOf BadMethod = plain 42
+codeOf ShellUplift = plain 43

@@ -1,5 +1,5 @@
 // The refusals (document 01, "Refusals that come from the input" and "from the state"; document 02: 38 of S-1,
-// 40 and 41 of S-2, 42 of S-3).
+// 40 and 41 of S-2, 42 of S-3, 43 of S-6).
 ghost use mathlib.Core.Path.{_≡_};
 ghost use Rattle.fields.specs.Refusal.{codeOf, plain};
 
@@ -27,6 +27,7 @@ pub enum Refusal {
     FigureOutOfRange,
     BadSiteClass,
     BadMethod,
+    ShellUplift,
 }
 
 // A refusal as the documents have it: its number, and the field that it gives, or 0 where it gives none.
@@ -68,6 +69,7 @@ impl Refusal {
             Refusal::FigureOutOfRange => plain(40),
             Refusal::BadSiteClass => plain(41),
             Refusal::BadMethod => plain(42),
+            Refusal::ShellUplift => plain(43),
         }
     }
 }

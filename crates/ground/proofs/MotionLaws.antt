@@ -19,12 +19,11 @@ use Rattle.fields.specs.declared.answer.Answer.{Answer}
 use Rattle.fields.specs.declared.answer.Answer.the-variants.{Accepted, Refused}
 use Rattle.fields.specs.declared.refusal.Code.{Code}
 use Rattle.fields.specs.declared.refusal.Refusal.{Refusal}
-use Rattle.fields.proofs.OrderLaws.{clash, first-cons, first-code, first-exactly, none-exactly}
+use Rattle.fields.proofs.OrderLaws.{first-cons, first-code, Replies, reply-refused-exactly, reply-given-exactly}
 use Rattle.fields.proofs.RefusalLaws.{never-zero}
 use Rattle.ground.specs.Chart.{Chart, fa, fv, rowOf, interpolated, coefficientOf}
 use Rattle.ground.specs.Motion.{isClass, mostMapped, designExact, over, designOf, sdsDen, sd1Den, sdsOf, sd1Of, verticalExact, verticalOf, valuesOf, otherClass, tooLarge, motionOrder, givenUnless, groundMotion, noValues, motionCode, groundMotionCode, WithoutLoss, greatest, ValuesJustified, ReplyJustified}
 use Rattle.ground.specs.declared.motion.GroundMotion as GroundMotion
-use Rattle.ground.specs.declared.motion.DesignValues.{DesignValues}
 use Rattle.ground.proofs.ChartLaws.{interpolates, interpolation-unique}
 
 -- ---- the figures
@@ -112,16 +111,8 @@ worked-out class Ss S1 e f g = rw (g, e, f, sds-product class Ss, sd1-product cl
 -- ---- the answer
 
 -- values are no refusal
-no-refusal : {X : Type 0} {v : DesignValues} {r : Refusal} → GroundMotion.the-variants.Given v ≡ GroundMotion.the-variants.Refused r → X
-no-refusal e = absurd (let z : _≡_ {A = ℕ} 0 1 = cc in omega arith)
-
-refused-as : (a : Answer) (v : DesignValues) (r : Refusal) → (givenUnless a v ≡ GroundMotion.the-variants.Refused r) ↔ (a ≡ Refused r)
-refused-as Accepted v r = (no-refusal, λ e. clash (sym e))
-refused-as (Refused x) v r = (λ e. cc, λ e. cc)
-
-given-as : (a : Answer) (v : DesignValues) → (givenUnless a v ≡ GroundMotion.the-variants.Given v) ↔ (a ≡ Accepted)
-given-as Accepted v = (λ e. refl, λ e. refl)
-given-as (Refused r) v = (λ e. no-refusal (sym e), clash)
+replies : Replies GroundMotion.the-variants.Given GroundMotion.the-variants.Refused
+replies = record { apart = λ e. absurd (let z : _≡_ {A = ℕ} 0 1 = cc in omega arith); same = λ e. cc }
 
 module _ (class Ss S1 : ℕ) where
   -- the documents' numbers, in their order
@@ -131,19 +122,13 @@ module _ (class Ss S1 : ℕ) where
   -- each exactly under its condition with none before it
   pub motion-exactly : (r : Refusal) → (groundMotion class Ss S1 ≡ GroundMotion.the-variants.Refused r) ↔ First (motionOrder class Ss S1) r
   unfolding groundMotion
-  motion-exactly r =
-      let f = first-exactly (motionOrder class Ss S1) r in
-      let g = refused-as (firstOf (motionOrder class Ss S1)) (valuesOf class Ss S1) r in
-      (λ e. f .0 (g .0 e), λ h. g .1 (f .1 h))
+  motion-exactly = reply-refused-exactly replies (valuesOf class Ss S1) (motionOrder class Ss S1)
 
   -- and values exactly where no condition applies
   pub given-exactly : (groundMotion class Ss S1 ≡ GroundMotion.the-variants.Given (valuesOf class Ss S1))
       ↔ ((j : ℕ) → j < length (motionOrder class Ss S1) → at (motionOrder class Ss S1) j .applies ≡ false)
   unfolding groundMotion
-  given-exactly =
-      let f = none-exactly (motionOrder class Ss S1) in
-      let g = given-as (firstOf (motionOrder class Ss S1)) (valuesOf class Ss S1) in
-      (λ e. f .0 (g .0 e), λ h. g .1 (f .1 h))
+  given-exactly = reply-given-exactly replies (valuesOf class Ss S1) (motionOrder class Ss S1)
 
   motion-code : motionCode (groundMotion class Ss S1) ≡ groundMotionCode class Ss S1
   unfolding groundMotion groundMotionCode

@@ -5,11 +5,10 @@ use mathlib.Core.List.{List, [], _∷_}
 use Prim.Native.Nat.{ℕ, _*_, _≤_}
 use lib.Dec.{leb, ltb, eqb}
 use Rattle.exact.specs.Quotient.{Ratio, downOf, upOf, whole, AtLeast}
-use Rattle.fields.specs.Order.{Condition, _when_, firstOf, firstCode}
+use Rattle.fields.specs.Order.{Condition, _when_, firstOf, replyUnless, firstCode}
 use Rattle.fields.specs.Range.{In}
 use Rattle.fields.specs.Refusal.{plain, codeOf}
 use Rattle.fields.specs.declared.answer.Answer.{Answer}
-use Rattle.fields.specs.declared.answer.Answer.the-variants.{Accepted, Refused}
 use Rattle.fields.specs.declared.refusal.Code.{Code}
 use Rattle.fields.specs.declared.refusal.Refusal.the-variants.{FigureOutOfRange, BadSiteClass}
 use Rattle.ground.specs.Chart.{Chart, fa, fv, rowOf, coefficientOf, Interpolates}
@@ -72,8 +71,7 @@ abbrev pub motionOrder : ℕ → ℕ → ℕ → List Condition
 motionOrder class Ss S1 = otherClass class ∷ tooLarge Ss S1 ∷ []
 
 abbrev pub givenUnless : Answer → DesignValues → GroundMotion.GroundMotion
-givenUnless Accepted v = GroundMotion.the-variants.Given v
-givenUnless (Refused r) v = GroundMotion.the-variants.Refused r
+givenUnless = replyUnless GroundMotion.the-variants.Given GroundMotion.the-variants.Refused
 
 unfoldable pub groundMotion : ℕ → ℕ → ℕ → GroundMotion.GroundMotion
 groundMotion class Ss S1 = givenUnless (firstOf (motionOrder class Ss S1)) (valuesOf class Ss S1)

@@ -14,7 +14,7 @@ use Rattle.fields.specs.declared.refusal.Refusal.the-variants.{Unreachable, Wat
 use Rattle.fields.specs.Order.{Condition, _when_, firstOf, First, answerCode, codes}
 use Rattle.fields.specs.declared.answer.Answer.{Answer}
 use Rattle.fields.specs.declared.answer.Answer.the-variants.{Accepted, Refused}
-use Rattle.fields.proofs.OrderLaws.{first-exactly}
+use Rattle.fields.proofs.OrderLaws.{clash, first-exactly}
 use Rattle.rules.specs.Method.{methodNumber, isMethod, otherMethod, methodOf}
 use Rattle.rules.specs.declared.method.Method.{Method}
 use Rattle.rules.proofs.MethodLaws.{is-method, method-of, other-exactly}
@@ -131,3 +131,35 @@ forty-two-judged n s =
         → (cond (not b) (Refused Unreachable) (firstOf (otherMethod n ∷ later)) ≡ Refused BadMethod) ↔ (LeftByRun s × ((m : Method) → n ≡ methodNumber m → ⊥))
     go true e = second (otherMethod n .applies) refl (left-exactly s .0 (subst T (sym e) tt))
     go false e = (λ k. absurd (omega (arith, ap (λ (a : Answer). answerCode a .number) k)), λ k. absurd (subst T e (left-exactly s .1 (k .0))))
+
+-- ---- FOR QUESTIONS THAT REST ON JUDGING
+
+-- a report exists of complete sheets alone
+accepted-complete : (n : ℕ) (c : Completed) → judgedCompleted n c .answer ≡ Accepted → c .status ≡ Status.the-variants.Complete
+unfolding judgedCompleted
+accepted-complete n c = go (c .status) (otherMethod n .applies)
+  where
+    go : (t : Status.Completeness) (b : Bool) → unlessRefused (firstOf (orderAfter t ((BadMethod when b) ∷ []) (waterAbove (c .entries) ∷ []))) (reportOn (methodOf n) (c .entries)) .answer ≡ Accepted
+        → t ≡ Status.the-variants.Complete
+    go Status.the-variants.Unreachable b e = clash e
+    go (Status.the-variants.Refused r) true e = clash e
+    go (Status.the-variants.Refused r) false e = clash e
+    go Status.the-variants.Complete b e = refl
+
+-- what is known of a judgement on what a sheet was asked first
+module _ (n : ℕ) (s : Sheet) {c : Completed} (first : c ≡ completedOf s) {j : Judgement} (judgement : j ≡ judgedCompleted n c) where
+  judged-as : j ≡ judged n s
+  judged-as = judgement ∙ ap (judgedCompleted n) first ∙ sym (judged-completed n s)
+
+  -- its answer is the order's,
+  pub answer-first : {a : Answer} → j .answer ≡ a → firstOf (judgeOrder n s) ≡ a
+  answer-first e = sym (judged-answer n s) ∙ ap (λ (k : Judgement). k .answer) (sym judged-as) ∙ e
+
+  module _ (accepted : j .answer ≡ Accepted) where
+    -- and where that is no refusal, the sheet is complete and the report is on its entries
+    pub accepted-status : c .status ≡ Status.the-variants.Complete
+    accepted-status = accepted-complete n c (ap (λ (k : Judgement). k .answer) (sym judgement) ∙ accepted)
+
+    pub accepted-report : j ≡ reportOn (methodOf n) (entriesOf s)
+    unfolding judged
+    accepted-report = judged-as ∙ ap (λ (a : Answer). unlessRefused a (reportOn (methodOf n) (entriesOf s))) (answer-first accepted)

@@ -1,8 +1,10 @@
 // The leaves of `exact`, numbered from 1.
+use crate::clamp::field;
 use crate::clamp::figure;
 use crate::print;
+use exact::Wide;
 
-pub(crate) fn answer(leaf: u64, a: u64, b: u64, c: u64) {
+pub(crate) fn answer(leaf: u64, a: u64, b: u64, c: u64, d: u64) {
     match leaf {
         1 => print::number(exact::down(a, figure(1, b, 18446744073709551615))),
         2 => print::number(exact::up(a, figure(1, b, 18446744073709551615))),
@@ -10,6 +12,8 @@ pub(crate) fn answer(leaf: u64, a: u64, b: u64, c: u64) {
         4 => print::number(exact::greatest_root(figure(1, a, 18446744073709551615), b)),
         5 => nearest(a, b),
         6 => print::signed(signed(a, b)),
+        7 => quotient_down(a, b, c, d),
+        8 => quotient_up(a, b, c, d),
         _ => print::out(),
     }
 }
@@ -24,6 +28,19 @@ fn nearest(need: u64, capacity: u64) {
         figure(0, need, 9007199254740991),
         figure(1, capacity, 9007199254740991),
     ));
+}
+
+// A product past 64 bits, divided by one factor after another.
+fn quotient_down(a: u64, b: u64, c: u64, d: u64) {
+    let num = Wide::product(a, field(0, b, 4294967295));
+    let first = num.down(field(1, c, 4294967295));
+    print::wide(first.down(field(1, d, 4294967295)));
+}
+
+fn quotient_up(a: u64, b: u64, c: u64, d: u64) {
+    let num = Wide::product(a, field(0, b, 4294967295));
+    let first = num.up(field(1, c, 4294967295));
+    print::wide(first.up(field(1, d, 4294967295)));
 }
 
 // The number of this size, negative where `negative` is not 0.

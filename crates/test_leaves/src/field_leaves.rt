@@ -37,6 +37,7 @@ fn refusal(place: u64, field: u32) -> Refusal {
         17 => Refusal::AnchorsUnstated,
         18 => Refusal::FigureOutOfRange,
         19 => Refusal::BadSiteClass,
-        _ => Refusal::BadMethod,
+        20 => Refusal::BadMethod,
+        _ => Refusal::ShellUplift,
     }
 }

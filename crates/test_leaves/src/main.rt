@@ -1,6 +1,7 @@
 // Runs vectors for the leaf functions, and for questions without a sheet. Standard input is lines of five
 // numbers: which function, and its arguments, 0 where it has fewer than four. Each line's reply is written on a
 // line of its own. oracle/leaves.py numbers the functions, and makes both the vectors and what is to be written.
+mod buckling_leaves;
 mod clamp;
 mod exact_leaves;
 mod field_leaves;
@@ -48,7 +49,7 @@ fn line(text: &[u8], from: usize) -> usize
 
 fn answer(leaf: u64, a: u64, b: u64, c: u64, d: u64) {
     if leaf < 10 {
-        exact_leaves::answer(leaf, a, b, c);
+        exact_leaves::answer(leaf, a, b, c, d);
         return;
     }
     if leaf < 20 {
@@ -67,7 +68,11 @@ fn answer(leaf: u64, a: u64, b: u64, c: u64, d: u64) {
         method_leaves::answer(leaf, a, b);
         return;
     }
-    weight_leaves::answer(leaf, a, b, c, d);
+    if leaf < 53 {
+        weight_leaves::answer(leaf, a, b, c, d);
+        return;
+    }
+    buckling_leaves::answer(leaf, a, b, c);
 }
 
 // The digits from `from` on, and the byte that ends them.
@@ -96,8 +101,9 @@ fn with_digit(value: u64, byte: u8) -> u64 {
     if b'9' < byte {
         return value;
     }
-    if 1844674407370955160 < value {
+    let digit = (byte - b'0') as u64;
+    if (18446744073709551615 - digit) / 10 < value {
         return value;
     }
-    value * 10 + (byte - b'0') as u64
+    value * 10 + digit
 }

@@ -1,4 +1,5 @@
 // A reply as a line of text.
+use exact::Wide;
 use fields::Code;
 use ground::DesignValues;
 use libc::STDOUT_FILENO;
@@ -12,6 +13,13 @@ pub(crate) fn out() {
 pub(crate) fn number(n: u64) {
     io::print_decimal(STDOUT_FILENO, n);
     io::write_all(STDOUT_FILENO, b"\n");
+}
+
+// A number past 64 bits by its two parts.
+pub(crate) fn wide(w: Wide) {
+    io::print_decimal(STDOUT_FILENO, w.high);
+    io::write_all(STDOUT_FILENO, b" ");
+    number(w.low as u64);
 }
 
 pub(crate) fn signed(z: i64) {

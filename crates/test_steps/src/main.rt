@@ -1,4 +1,5 @@
-// Runs scripts of steps, sheets that are built by hand, and bytes, and judges sheets. Standard input is
+// Runs scripts of steps, sheets that are built by hand, and bytes, judges sheets and asks about their shell
+// compression. Standard input is
 // records: a code, two bytes of length, and the payload, whose figures have four bytes each, big-endian.
 // One sheet is held from record to record; each record's reply is written on a line of its own.
 // oracle/records.py has the format, and makes both the scripts and what is to be written.
@@ -8,6 +9,8 @@ mod figures;
 mod print;
 mod report;
 
+use compression::Compression;
+use compression::shell_compression;
 use entries::Sheet;
 use judge::judging;
 use libc::STDIN_FILENO;
@@ -19,7 +22,7 @@ use sheet::steps::Reply;
 // More records than any file has, so that the program ends.
 const MOST_RECORDS: usize = 100000;
 
-// Of a sheet that is built by hand; where it is judged, the method's number follows them.
+// Of a sheet that is built by hand; where it is judged or asked about, the method's number follows them.
 const SHEET_FIGURES: usize = 78;
 
 fn main() {
@@ -68,7 +71,15 @@ fn answer(held: Sheet, code: u8, payload: &[u8]) -> Sheet {
                 figures::sheet(payload),
             ),
         ),
-        _ => judged(held, judging::judge(figures::figure(payload, 0), held)),
+        10 => judged(held, judging::judge(figures::figure(payload, 0), held)),
+        11 => asked(
+            held,
+            shell_compression(
+                figures::figure(payload, SHEET_FIGURES),
+                figures::sheet(payload),
+            ),
+        ),
+        _ => asked(held, shell_compression(figures::figure(payload, 0), held)),
     }
 }
 
@@ -104,5 +115,11 @@ fn judged(held: Sheet, judgement: Judgement) -> Sheet {
     let report = judgement.report;
     print::judged(answer);
     report::report(report);
+    held
+}
+
+// Nor does this question change it.
+fn asked(held: Sheet, reply: Compression) -> Sheet {
+    print::compression(reply);
     held
 }

@@ -1,4 +1,6 @@
 // Replies as lines of text, in oracle/records.py's letters.
+use compression::Compression;
+use compression::Stresses;
 use entries::AnchorsEntry;
 use entries::Course;
 use entries::Sheet;
@@ -38,6 +40,26 @@ pub(crate) fn written(w: Written) {
             number(n as u64);
         }
         Written::Refused(r) => refusal(r),
+    }
+}
+
+pub(crate) fn compression(c: Compression) {
+    match c {
+        Compression::Given(v) => stresses(v),
+        Compression::Refused(r) => refusal(r),
+    }
+    io::write_all(STDOUT_FILENO, b"\n");
+}
+
+fn stresses(v: Stresses) {
+    io::write_all(STDOUT_FILENO, b"stress");
+    number(v.stress);
+    io::write_all(STDOUT_FILENO, b" allowed");
+    number(v.allowed);
+    if v.holds {
+        io::write_all(STDOUT_FILENO, b" holds yes");
+    } else {
+        io::write_all(STDOUT_FILENO, b" holds no");
     }
 }
 

@@ -3,7 +3,7 @@
 use mathlib.Core.List.{List, [], _∷_, _++_}
 use Prim.Native.Nat.{ℕ}
 use Rattle.fields.specs.declared.refusal.Refusal.{Refusal}
-use Rattle.fields.specs.declared.refusal.Refusal.the-variants.{TooFewBytes, TooManyBytes, BadLength, BadVersion, BadCount, OutOfRange, AllowanceNotBelowPlate, BadAnchors, BufferTooShort, Unreachable, TankStated, NoTank, CoursesFull, ShellTooHigh, NoCourse, NoSite, WaterAboveShell, AnchorsUnstated, FigureOutOfRange, BadSiteClass, BadMethod}
+use Rattle.fields.specs.declared.refusal.Refusal.the-variants.{TooFewBytes, TooManyBytes, BadLength, BadVersion, BadCount, OutOfRange, AllowanceNotBelowPlate, BadAnchors, BufferTooShort, Unreachable, TankStated, NoTank, CoursesFull, ShellTooHigh, NoCourse, NoSite, WaterAboveShell, AnchorsUnstated, FigureOutOfRange, BadSiteClass, BadMethod, ShellUplift}
 use Rattle.lists.specs.Ascii.{ascii}
 use Rattle.entries.specs.Sheet.{noAnchors}
 use Rattle.entries.specs.declared.sheet.Sheet.{Sheet}
@@ -59,6 +59,7 @@ refusals =
     ∷ FigureOutOfRange
     ∷ BadSiteClass
     ∷ BadMethod
+    ∷ ShellUplift
     ∷ []
 
 abbrev pub refusalTexts : List (List ℕ)
@@ -85,4 +86,5 @@ refusalTexts =
     ∷ ascii "refused 40\n"
     ∷ ascii "refused 41\n"
     ∷ ascii "refused 42\n"
+    ∷ ascii "refused 43\n"
     ∷ []

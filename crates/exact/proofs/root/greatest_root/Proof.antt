@@ -10,12 +10,13 @@ use lib.Dec.{leb, lit<}
 use lib.Pow.{pow-lt, pow-pos}
 use borrow.Author.Needs.{needs}
 use borrow.Author.Tests.{le-leb, lt-leb}
-use Rattle.exact.specs.Root.{tried, lowBits, rootOf}
+use Rattle.exact.specs.Greatest.{tried, lowBits, greatestBelow}
+use Rattle.exact.specs.Root.{squareWithin, rootOf}
 use Rattle.exact.proofs.root.greatest_root.Statement.{statement}
 use Rattle.exact.proofs.root.greatest_root.Tie as tie
 
 abbrev Inv-loop : tie.InvT-loop
-Inv-loop factor most square n₀ k₀ n k = (lowBits k square n ≡ lowBits 32 square 0) × (n + 2 ^ k ≤ 2 ^ 32) × (k ≤ 32)
+Inv-loop factor most square n₀ k₀ n k = (lowBits k (squareWithin square) n ≡ lowBits 32 (squareWithin square) 0) × (n + 2 ^ k ≤ 2 ^ 32) × (k ≤ 32)
 
 abbrev μ-loop : tie.MeasureT-loop
 μ-loop factor most square n₀ k₀ n k = k
@@ -27,9 +28,9 @@ bit k = 1 * 2 ^ k % 18446744073709551616
 bit-is : (k : ℕ) → k < 64 → bit k ≡ 2 ^ k
 bit-is k h = mod-eq-of-lt (subst (λ (x : ℕ). x < 2 ^ 64) (sym (one-mul (2 ^ k))) (pow-lt h)) ∙ one-mul (2 ^ k)
 
-none-left : (s n k : ℕ) → k ≡ 0 → lowBits k s n ≡ n
+none-left : (s n k : ℕ) → k ≡ 0 → lowBits k (squareWithin s) n ≡ n
 unfolding lowBits
-none-left s n k e = ap (λ (x : ℕ). lowBits x s n) e
+none-left s n k e = ap (λ (x : ℕ). lowBits x (squareWithin s) n) e
 
 -- a bit by another name is tried the same
 fits-in : (s n w b : ℕ) → b ≡ w → (n + b) * (n + b) ≤ s → cond (leb ((n + w) * (n + w)) s) (n + w) n ≡ n + b
@@ -52,15 +53,15 @@ module _ (s n k : ℕ) (h : 0 < k) (le : k ≤ 32) (room : n + 2 ^ k ≤ 2 ^ 32)
   square-lt : (n + bit (k - 1)) * (n + bit (k - 1)) < 2 ^ 64
   square-lt = lt-of-le-of-lt (mul-le-mul (le-pred-of-lt more-lt) (le-pred-of-lt more-lt)) (lit< tt)
 
-  steps : (m : ℕ) → tried (k - 1) s n ≡ m → lowBits (k - 1) s m ≡ lowBits k s n
+  steps : (m : ℕ) → tried (k - 1) (squareWithin s) n ≡ m → lowBits (k - 1) (squareWithin s) m ≡ lowBits k (squareWithin s) n
   unfolding lowBits
-  steps m e = sym (ap (λ (x : ℕ). lowBits x s n) one-less ∙ ap (lowBits (k - 1) s) e)
+  steps m e = sym (ap (λ (x : ℕ). lowBits x (squareWithin s) n) one-less ∙ ap (lowBits (k - 1) (squareWithin s)) e)
 
-  took : (n + bit (k - 1)) * (n + bit (k - 1)) ≤ s → lowBits (k - 1) s (n + bit (k - 1)) ≡ lowBits k s n
+  took : (n + bit (k - 1)) * (n + bit (k - 1)) ≤ s → lowBits (k - 1) (squareWithin s) (n + bit (k - 1)) ≡ lowBits k (squareWithin s) n
   unfolding tried
   took t = steps (n + bit (k - 1)) (fits-in s n (2 ^ (k - 1)) (bit (k - 1)) the-bit t)
 
-  kept : s < (n + bit (k - 1)) * (n + bit (k - 1)) → lowBits (k - 1) s n ≡ lowBits k s n
+  kept : s < (n + bit (k - 1)) * (n + bit (k - 1)) → lowBits (k - 1) (squareWithin s) n ≡ lowBits k (squareWithin s) n
   unfolding tried
   kept t = steps n (rw (← the-bit, lt-leb _ _ t))
 
@@ -107,7 +108,7 @@ loop-again-2 c =
     )
 
 returns : tie.Need-returns Inv-loop μ-loop
-unfolding rootOf
+unfolding rootOf greatestBelow
 returns c = let l = c .before .loop in sym (none-left _ (l .n) (l .k) (omega arith)) ∙ l .inv .0
 
 pub greatest-root-spec : {M : Type 1} → statement M

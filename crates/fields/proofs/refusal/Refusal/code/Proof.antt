@@ -49,6 +49,8 @@ code-spec =
     (λ c κs. tt)
     (λ c. search needs)
     (λ c κs. tt)
+    (λ c. search needs)
+    (λ c κs. tt)
     -- its code
     (λ c. rw (c .before .enum-told .given .1) (c .plain .ensures))
     (λ c. rw (c .before .enum-told2 .given .1) (c .plain2 .ensures))
@@ -70,4 +72,5 @@ code-spec =
     (λ c. rw (c .before .enum-told17 .given .1) (c .plain17 .ensures))
     (λ c. rw (c .before .enum-told18 .given .1) (c .plain18 .ensures))
     (λ c. rw (c .before .enum-told19 .given .1) (c .plain19 .ensures))
-    (λ c. rw (c .before .enum-told20 .given .1) (c .plain20 .ensures)))
+    (λ c. rw (c .before .enum-told20 .given .1) (c .plain20 .ensures))
+    (λ c. rw (c .before .enum-told21 .given .1) (c .plain21 .ensures)))

@@ -1,0 +1,5 @@
+-- The laws that callers' proofs cite.
+pub mod StressLaws
+pub mod CoefficientLaws
+pub mod AllowedLaws
+pub mod Computed

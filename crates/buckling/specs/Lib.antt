@@ -1,0 +1,5 @@
+pub mod Units
+pub mod Coefficient
+pub mod Stress
+pub mod Allowed
+pub mod Bounds

@@ -1,0 +1,4 @@
+-- The laws that callers' proofs cite.
+pub mod CompressionLaws
+pub mod Promise
+pub mod Cases
