@@ -8,7 +8,7 @@ use native.Mathlib.Nat.{mul-le-mul}
 use native.Mathlib.Omega.{arith}
 use Rattle.exact.specs.Quotient.{Ratio, whole, plus, down_of, AtMost}
 use Rattle.exact.specs.Fraction.{◌over◌, times, divided_by, ◌≤ʳ◌, at_most}
-use Rattle.exact.proofs.FractionLaws.{at_most, not_at_most, ≤ʳ-trans, ≤ʳ-refl, times_le, plus_le, divided_le}
+use Rattle.exact.proofs.FractionLaws.{at_most_lem, not_at_most, ≤ʳ-trans, ≤ʳ-refl, times_le, plus_le, divided_le}
 use Rattle.exact.proofs.QuotientLaws.{rounded_down, rounded_down_only, down_same}
 use Rattle.buckling.specs.Units.{plate_inches, radius}
 use Rattle.buckling.specs.Coefficient.{modulus, hundred_thousandths}
@@ -73,14 +73,14 @@ module _ (D t : ℕ) where
 
   is_elastic : 125000 * t ≤ 1943 * D → local_buckling x ≡ elastic x
   unfolding local_buckling
-  is_elastic h = ap (λ (b : Bool). cond b (elastic x) above_elastic) (at_most x elastic_limit (omega (arith, h)))
+  is_elastic h = ap (λ (b : Bool). cond b (elastic x) above_elastic) (at_most_lem x elastic_limit (omega (arith, h)))
 
   not_elastic : 1943 * D < 125000 * t → local_buckling x ≡ above_elastic
   unfolding local_buckling
   not_elastic h = ap (λ (b : Bool). cond b (elastic x) above_elastic) (not_at_most x elastic_limit (omega (arith, h)))
 
   is_inelastic : 1943 * D < 125000 * t → 16 * t ≤ D → local_buckling x ≡ inelastic x
-  is_inelastic h k = not_elastic h ∙ ap (λ (b : Bool). cond b (inelastic x) plastic) (at_most x inelastic_limit (omega (arith, k)))
+  is_inelastic h k = not_elastic h ∙ ap (λ (b : Bool). cond b (inelastic x) plastic) (at_most_lem x inelastic_limit (omega (arith, k)))
 
   is_plastic : D < 16 * t → local_buckling x ≡ plastic
   is_plastic h = not_elastic (omega (arith, h)) ∙ ap (λ (b : Bool). cond b (inelastic x) plastic) (not_at_most x inelastic_limit (omega (arith, h)))

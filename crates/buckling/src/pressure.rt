@@ -11,8 +11,8 @@ const LAST: u64 = 640;
 
 // The argument, (P / E) (R / t)², in ten-thousandths, rounded down; `net` is the plate less its allowance.
 pub fn argument(level: u32, diameter: u32, net: u32) -> u64
-    requires fact { In 2 level }
-    requires fact_2 { In 1 diameter }
+    requires level_in { In 2 level }
+    requires diameter_in { In 1 diameter }
     requires net_plate { NetPlate net }
     ensures { result ≡ argument_of level diameter net }
 {

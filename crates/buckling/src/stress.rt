@@ -11,10 +11,10 @@ use exact::Wide;
 
 // Rounded up. The numerator is within 64 bits, and not within 63.
 pub fn compression(weight: u32, vertical: u32, moment: u32, diameter: u32, net: u32) -> u64
-    requires fact { In 3 weight }
-    requires fact_2 { In 10 vertical }
-    requires fact_3 { In 11 moment }
-    requires fact_4 { In 1 diameter }
+    requires weight_in { In 3 weight }
+    requires vertical_in { In 10 vertical }
+    requires moment_in { In 11 moment }
+    requires diameter_in { In 1 diameter }
     requires net_plate { NetPlate net }
     ensures { result ≡ stress_of weight vertical moment diameter net }
 {
@@ -27,7 +27,7 @@ pub fn compression(weight: u32, vertical: u32, moment: u32, diameter: u32, net: 
 // Rounded down. Anchored tanks have a coefficient of 0.
 pub fn allowed(coefficient: u32, diameter: u32, net: u32) -> u64
     requires coefficient_le_most_coefficient { coefficient ≤ most_coefficient }
-    requires fact { In 1 diameter }
+    requires diameter_in { In 1 diameter }
     requires net_plate { NetPlate net }
     ensures { result ≡ allowed_of coefficient diameter net }
 {
@@ -43,7 +43,7 @@ pub fn allowed(coefficient: u32, diameter: u32, net: u32) -> u64
 // Past 64 bits, so divided by one factor after another.
 fn allowed_elastic(coefficient: u32, diameter: u32, net: u32) -> u64
     requires coefficient_le_most_coefficient { coefficient ≤ most_coefficient }
-    requires fact { In 1 diameter }
+    requires diameter_in { In 1 diameter }
     requires net_bound { 125000 * net ≤ 1943 * diameter }
     requires net_le_most_net { net ≤ most_net }
     ensures { result ≡ allowed_of coefficient diameter net }
@@ -60,7 +60,7 @@ fn allowed_elastic(coefficient: u32, diameter: u32, net: u32) -> u64
 
 fn allowed_inelastic(coefficient: u32, diameter: u32, net: u32) -> u64
     requires coefficient_le_most_coefficient { coefficient ≤ most_coefficient }
-    requires fact { In 1 diameter }
+    requires diameter_in { In 1 diameter }
     requires diameter_bound { 1943 * diameter < 125000 * net }
     requires net_bound { 16 * net ≤ diameter }
     ensures { result ≡ allowed_of coefficient diameter net }
@@ -73,7 +73,7 @@ fn allowed_inelastic(coefficient: u32, diameter: u32, net: u32) -> u64
 
 fn allowed_plastic(coefficient: u32, diameter: u32, net: u32) -> u64
     requires coefficient_le_most_coefficient { coefficient ≤ most_coefficient }
-    requires fact { In 1 diameter }
+    requires diameter_in { In 1 diameter }
     requires diameter_bound { diameter < 16 * net }
     requires net_le_most_net { net ≤ most_net }
     ensures { result ≡ allowed_of coefficient diameter net }

@@ -15,7 +15,7 @@ use sheet::reach;
 // The entries of this sheet. Refused: 30, 32, 35, 36, 38.
 pub fn of_sheet(s: Sheet) -> Completed
     ensures value { result ≡ completed_of s }
-    ensures result_value { completed_code result ≡ sheet_code s }
+    ensures code { completed_code result ≡ sheet_code s }
 {
     if !reach::is_reachable(s) {
         return without(Completeness::Unreachable);
@@ -29,7 +29,7 @@ pub fn of_sheet(s: Sheet) -> Completed
 // Refused: as reading is.
 pub fn of_bytes(bytes: &[u8]) -> Completed
     ensures value { result ≡ read_completed bytes.now }
-    ensures result_value { completed_code result ≡ bytes_code bytes.now }
+    ensures code { completed_code result ≡ bytes_code bytes.now }
 {
     let reading = sheet::reading::read_with_height(bytes);
     let answer = reading.answer;
@@ -50,7 +50,7 @@ fn without(status: Completeness) -> Completed
 
 // The entries of a sheet that steps have left, whose courses have this height. Refused: 32, 35, 36, 38.
 fn complete_reachable(s: Sheet, height: u64) -> Completed
-    requires t { T (reachable s) }
+    requires reached { T (reachable s) }
     requires height_value { height ≡ height_of (held s) }
     ensures { result ≡ completed_of s }
 {

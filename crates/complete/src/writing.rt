@@ -15,8 +15,8 @@ use sheet::writing::Written;
 // 32, 35, 36, 38, 19.
 pub fn write(s: Sheet, out: &mut [u8]) -> Written
     ensures value { result ≡ (written s out.old).answer }
-    ensures out_after { out.new ≡ (written s out.old).buffer }
-    ensures result_value { write_code result ≡ written_code s (length out.old) }
+    ensures buffer { out.new ≡ (written s out.old).buffer }
+    ensures code { write_code result ≡ written_code s (length out.old) }
     ensures reads_back { ReadsBack s result out.new }
 {
     let completed = status::of_sheet(s);
@@ -33,7 +33,7 @@ pub fn write(s: Sheet, out: &mut [u8]) -> Written
 fn write_entries(e: Entries, out: &mut [u8]) -> Written
     requires { Valid e }
     ensures value { result ≡ (written_entries e out.old).answer }
-    ensures out_after { out.new ≡ (written_entries e out.old).buffer }
+    ensures buffer { out.new ≡ (written_entries e out.old).buffer }
 {
     let n = e.count;
     if out.len() < 60 + 20 * n {

@@ -1,5 +1,7 @@
 // Shell compression at the bottom course (document 02, S-6): a question of its own about a sheet, on which its report
 // does not depend.
+#![tactic(auto)]
+
 mod question;
 
 pub use question::{Compression, Stresses, shell_compression};

@@ -16,14 +16,14 @@ use stability::earthquake::Uplift;
 
 // The longitudinal compression stress at the bottom of the shell and the allowed one, in psi; it holds when the stress
 // is at most the allowed one.
-#[derive(Drop)]
+#[derive(Clone, Copy)]
 pub struct Stresses {
     pub stress: u64,
     pub allowed: u64,
     pub holds: bool,
 }
 
-#[derive(Drop)]
+#[derive(Clone, Copy)]
 pub enum Compression {
     Given(Stresses),
     Refused(Refusal),
@@ -33,7 +33,7 @@ pub enum Compression {
 // method with this number is (30, 42, 32, 35, 36, 38, 37), then 43.
 pub fn shell_compression(method: u32, s: Sheet) -> Compression
     ensures value { result ≡ shell_compression method s }
-    ensures result_value { compression_code result ≡ shell_compression_code method s }
+    ensures code { compression_code result ≡ shell_compression_code method s }
     ensures reply_justified { ReplyJustified (entries_of s) result }
 {
     let completed = complete::of_sheet(s);
@@ -104,7 +104,7 @@ fn bottom_stresses(e: Entries) -> Stresses
 
 // The coefficient of pressure: none for anchored tanks.
 fn coefficient(tank: Tank, anchors: Anchors, net: u32) -> u32
-    requires t { T (clear (tank_flaws tank)) }
+    requires tank_clear { T (clear (tank_flaws tank)) }
     requires net_plate { NetPlate net }
     ensures value { result ≡ coefficient_on tank anchors net }
     ensures upper_bound { result ≤ most_coefficient }

@@ -19,7 +19,7 @@ fn or_out_of_range(first: Answer, field: u32, figure: u32) -> Answer
 
 pub fn tank_flaw(t: Tank) -> Answer
     ensures value { result ≡ first_of (tank_flaws t) }
-    ensures result_value { answer_code result ≡ first_code (tank_flaws t) }
+    ensures code { answer_code result ≡ first_code (tank_flaws t) }
 {
     let flaw = or_out_of_range(Answer::Accepted, 1, t.diameter);
     let flaw = or_out_of_range(flaw, 2, t.level);
@@ -33,7 +33,7 @@ pub fn tank_flaw(t: Tank) -> Answer
 
 pub fn site_flaw(x: Site) -> Answer
     ensures value { result ≡ first_of (site_flaws x) }
-    ensures result_value { answer_code result ≡ first_code (site_flaws x) }
+    ensures code { answer_code result ≡ first_code (site_flaws x) }
 {
     let flaw = or_out_of_range(Answer::Accepted, 7, x.speed);
     let flaw = or_out_of_range(flaw, 8, x.exposure);
@@ -45,7 +45,7 @@ pub fn site_flaw(x: Site) -> Answer
 // For a tank of this diameter.
 pub fn anchors_flaw(diameter: u32, a: Anchors) -> Answer
     ensures value { result ≡ first_of (anchor_flaws diameter a) }
-    ensures result_value { answer_code result ≡ first_code (anchor_flaws diameter a) }
+    ensures code { answer_code result ≡ first_code (anchor_flaws diameter a) }
 {
     let flaw = or_out_of_range(Answer::Accepted, 12, a.number);
     let flaw = or_out_of_range(flaw, 13, a.circle);
@@ -72,7 +72,7 @@ fn bad_anchors(diameter: u32, a: Anchors) -> bool
 
 pub fn course_flaw(c: Course) -> Answer
     ensures value { result ≡ first_of (course_flaws c) }
-    ensures result_value { answer_code result ≡ first_code (course_flaws c) }
+    ensures code { answer_code result ≡ first_code (course_flaws c) }
 {
     let flaw = or_out_of_range(Answer::Accepted, 15, c.width);
     let flaw = or_out_of_range(flaw, 16, c.plate);

@@ -1,5 +1,7 @@
 // What a check sheet is made of: its entries and the sheet that holds them, and what the figures of a step are
 // refused for. Nothing here knows bytes, steps or rules.
+#![tactic(auto)]
+
 pub mod flaws;
 mod sheet;
 

@@ -9,7 +9,7 @@ pub const MOST_COURSES: usize = 12;
 pub const MOST_HEIGHT: u64 = 76800;
 
 // Fields 1 to 6.
-#[derive(Drop)]
+#[derive(Clone, Copy)]
 pub struct Tank {
     pub diameter: u32,
     // The water level above the bottom.
@@ -23,7 +23,7 @@ pub struct Tank {
 }
 
 // Fields 7 to 11.
-#[derive(Drop)]
+#[derive(Clone, Copy)]
 pub struct Site {
     // The wind's speed V, Kz and I.
     pub speed: u32,
@@ -35,7 +35,7 @@ pub struct Site {
 }
 
 // Fields 12 to 14.
-#[derive(Drop)]
+#[derive(Clone, Copy)]
 pub struct Anchors {
     pub number: u32,
     // The diameter of the bolt circle, and the size of a bolt.
@@ -44,7 +44,7 @@ pub struct Anchors {
 }
 
 // Fields 15 to 19.
-#[derive(Drop)]
+#[derive(Clone, Copy)]
 pub struct Course {
     pub width: u32,
     pub plate: u32,
@@ -54,27 +54,27 @@ pub struct Course {
     pub efficiency: u32,
 }
 
-#[derive(Drop)]
+#[derive(Clone, Copy)]
 pub enum TankEntry {
     Blank,
     Filled(Tank),
 }
 
-#[derive(Drop)]
+#[derive(Clone, Copy)]
 pub enum SiteEntry {
     Blank,
     Filled(Site),
 }
 
 // Blank is not the same as N = 0 stated (document 02, S-1).
-#[derive(Drop)]
+#[derive(Clone, Copy)]
 pub enum AnchorsEntry {
     Blank,
     Filled(Anchors),
 }
 
 // The courses from the bottom up, `count` of them; the slots past them are blank.
-#[derive(Drop)]
+#[derive(Clone, Copy)]
 pub struct Sheet {
     pub tank: TankEntry,
     pub site: SiteEntry,

@@ -3,7 +3,7 @@
 use mathlib.Core.Path.{◌≡◌, refl}
 use mathlib.Core.Bool.{true, false}
 use Prim.Native.Nat.{ℕ, zero, suc, ◌*◌, ◌^◌, ◌<◌}
-use native.Mathlib.Nat.{le_of_mul-le-mul_right, le_refl, lt_of_not-le, mul-le-mul, mul-le-mul_left, mul-le-mul_right, not_le_of_lt, pow-le-pow_left, pow-lt-pow_left, pow-suc, pow-zero}
+use native.Mathlib.Nat.{le_of_mul-le-mul_right, le_refl, lt_of_not-le, mul-le-mul, mul-le-mul_left, mul-le-mul_right, not-le_of_lt, pow-le-pow_left, pow-lt-pow_left, pow-suc, pow-zero}
 use native.Mathlib.Decide.{dec_le}
 use native.Mathlib.Omega.{arith}
 use borrow.Author.Tests.{le-leb, lt-leb}
@@ -11,8 +11,8 @@ use Rattle.exact.specs.Quotient.{Ratio, plus}
 use Rattle.exact.specs.Fraction.{times, divided_by, power, ◌≤ʳ◌, at_most}
 
 -- the test of the order
-pub at_most : (f g : Ratio) → f ≤ʳ g → at_most f g ≡ true
-at_most f g = le-leb (f.num * g.den) (g.num * f.den)
+pub at_most_lem : (f g : Ratio) → f ≤ʳ g → at_most f g ≡ true
+at_most_lem f g = le-leb (f.num * g.den) (g.num * f.den)
 
 pub not_at_most : (f g : Ratio) → g.num * f.den < f.num * g.den → at_most f g ≡ false
 not_at_most f g = lt-leb (f.num * g.den) (g.num * f.den)
@@ -48,5 +48,5 @@ module _ (n : ℕ) (f g : Ratio) where
       decided : Dec (f ≤ʳ g) → f ≤ʳ g
       decided (yes h) = h
       decided (no h) =
-          absurd (not_le_of_lt (pow-lt-pow_left {n = n} (lt_of_not-le h) (λ e. omega (arith, e)))
+          absurd (not-le_of_lt (pow-lt-pow_left {n = n} (lt_of_not-le h) (λ e. omega (arith, e)))
           (rw (mul_pow f.num g.den n, mul_pow g.num f.den n) le))

@@ -2,7 +2,7 @@
 -- Assumes nothing.
 use mathlib.Core.Path.{◌≡◌, sym, ap, ◌∙◌}
 use Prim.Native.Nat.{ℕ, ◌+◌, ◌-◌, ◌*◌, ◌/◌, ◌%◌, ◌≤◌, ◌<◌}
-use native.Mathlib.Nat.{div-add-mod', div-div-eq-div-mul, div-mul-le_self, lt-div-mul-add, le-div_iff_mul-le, div-eq_of_lt-le, div-lt_iff_lt-mul, le-mul_of_pos_right, le_of_mul-le-mul_right, le_of_suc-le-suc, le_trans, lt_of_mul-lt-mul_right, mod-lt, mul_comm, mul-div-mul_right, mul-le-mul, mul-le-mul_right, mul-lt-mul_of_pos_right, mul_pos, suc-mul}
+use native.Mathlib.Nat.{div-add-mod', div-div-eq-div-mul, div-mul-le_self, lt-div-mul-add, le-div_iff_mul-le, div-eq_of_lt-le, div-lt_iff_lt-mul, le-mul_of_pos_right, le_of_mul-le-mul_right, le_of_suc-le-suc, le_trans, lt_of_mul-lt-mul_right, mod-lt, mul_comm, mul-div-mul_right, mul-le-mul, mul-le-mul_right, mul-lt-mul_of_pos_right, mul-pos, suc-mul}
 use native.Mathlib.Omega.{arith}
 use Rattle.exact.specs.Quotient.{down_of, up_of, up_to, Ratio, whole, AtLeast, AtMost}
 
@@ -83,7 +83,7 @@ rounded_up f h = record { safe = up_safe f.num f.den h; near = omega (arith, up_
 pub rounded_up_to : (k : ℕ) (f : Ratio) → 0 < k → 0 < f.den → AtLeast f (whole k) (up_to k f.num f.den)
 unfolding up_to
 rounded_up_to k f g h =
-    let p : 0 < k * f.den = mul_pos g h in
+    let p : 0 < k * f.den = mul-pos g h in
     record { safe = omega (arith, up_safe f.num (k * f.den) p); near = omega (arith, up_near f.num (k * f.den) p) }
 
 -- and nothing else is so near
@@ -94,7 +94,7 @@ rounded_up_only f r h a = up_unique f.num f.den h r a.safe (omega (arith, a.near
 pub rounded_up_to_only : (k : ℕ) (f : Ratio) (q : ℕ) → 0 < k → 0 < f.den → AtLeast f (whole k) (k * q) → k * q ≡ up_to k f.num f.den
 unfolding up_to
 rounded_up_to_only k f q g h a =
-    ap (λ (x : ℕ). k * x) (up_unique f.num (k * f.den) (mul_pos g h) q (omega (arith, a.safe)) (omega (arith, a.near)))
+    ap (λ (x : ℕ). k * x) (up_unique f.num (k * f.den) (mul-pos g h) q (omega (arith, a.safe)) (omega (arith, a.near)))
 
 pub rounded_down_only : (f : Ratio) (r : ℕ) → 0 < f.den → AtMost f (whole 1) r → r ≡ down_of f.num f.den
 rounded_down_only f r h a = sym (div-eq_of_lt-le f.den a.safe (omega (arith, a.near)))

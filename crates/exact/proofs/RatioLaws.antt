@@ -3,7 +3,7 @@
 use mathlib.Core.Path.{◌≡◌, ap, ◌∙◌, subst}
 use mathlib.Core.Bool.{false}
 use Prim.Native.Nat.{ℕ, ◌*◌, ◌^◌, ◌≤◌, ◌<◌}
-use native.Mathlib.Nat.{lt_irrefl, mul_pos, zero-mul}
+use native.Mathlib.Nat.{lt_irrefl, mul-pos, zero-mul}
 use native.Mathlib.Omega.{arith}
 use lib.IntN.{pos}
 use lib.Ieee.{Float, nan, inf, fin, Format, prec, up, down, round, div, of_int}
@@ -29,9 +29,9 @@ quotient f (fin s m e) nan a b p v w = absurd w
 quotient f (fin s m e) (inf t) a b p v w = absurd w
 quotient f (fin s m e) (fin t n d) a b p v w =
     let Y : ℕ = n * up d in
-    let above : 0 < Y = omega (arith, mul_pos p (down_pos d), w.1) in
+    let above : 0 < Y = omega (arith, mul-pos p (down_pos d), w.1) in
     rw (v.0, w.0, ne_eqb n 0 (λ z. lt_irrefl 0 (subst (λ (k : ℕ). 0 < k) (ap (λ (k : ℕ). k * up d) z ∙ zero-mul (up d)) above)))
-    (round_same f false (m * up e * down d) (Y * down e) a b (mul_pos above (down_pos e)) p
+    (round_same f false (m * up e * down d) (Y * down e) a b (mul-pos above (down_pos e)) p
     (cross (m * up e) Y a b (down e) (down d) v.1 w.1))
 
 -- up to 2 ^ prec every whole number is a float, so only the division rounds

@@ -2,7 +2,7 @@
 -- Assumes nothing.
 use mathlib.Core.Path.{◌≡◌, refl}
 use Prim.Native.Nat.{ℕ, ◌+◌, ◌*◌, ◌/◌, ◌^◌, ◌≤◌, ◌<◌}
-use native.Mathlib.Nat.{div-le_self, le-div_iff_mul-le, le_trans, lt_of_le_of_lt, lt_of_not-le, mul-le-mul, not_le_of_lt}
+use native.Mathlib.Nat.{div-le_self, le-div_iff_mul-le, le_trans, lt_of_le_of_lt, lt_of_not-le, mul-le-mul, not-le_of_lt}
 use native.Mathlib.Decide.{dec_le}
 use native.Mathlib.Omega.{arith}
 use lib.Dec.{not_T, le→leb, leb→le}
@@ -19,7 +19,7 @@ module _ (factor most : ℕ) (h : 0 < factor) (fits : most < 2 ^ 64) where
   root_is =
       greatest_found 32 (square_within s) (λ m n l t. le→leb (m * m) s (le_trans (mul-le-mul l l) (leb→le (n * n) s t)))
       (le→leb 0 s (omega arith))
-      (not_T (square_within s (2 ^ 32)) (λ t. not_le_of_lt (lt_of_le_of_lt (div-le_self most factor) fits) (leb→le (2 ^ 32 * 2 ^ 32) s t)))
+      (not_T (square_within s (2 ^ 32)) (λ t. not-le_of_lt (lt_of_le_of_lt (div-le_self most factor) fits) (leb→le (2 ^ 32 * 2 ^ 32) s t)))
 
   -- factor * n * n is at most most exactly when n * n is at most the quotient rounded down
   pub root_safe : factor * root_of factor most * root_of factor most ≤ most

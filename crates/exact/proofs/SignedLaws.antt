@@ -3,7 +3,7 @@
 use mathlib.Core.Path.{◌≡◌, refl, sym, ap, subst}
 use mathlib.Core.Bool.{Bool, true, false, not, cond}
 use Prim.Native.Nat.{ℕ, zero, suc, ◌+◌, ◌-◌, ◌*◌, ◌/◌, ◌%◌, ◌^◌, ◌≤◌, ◌<◌}
-use native.Mathlib.Nat.{div-add-mod', div-le_self, le-mul_of_pos_right, lt_of_le_of_lt, mod-lt, mul_pos, zero-mul, lt_irrefl, lt_of_not-le, not-suc-le_self, not-suc-le-zero, zero-add}
+use native.Mathlib.Nat.{div-add-mod', div-le_self, le-mul_of_pos_right, lt_of_le_of_lt, mod-lt, mul-pos, zero-mul, lt_irrefl, lt_of_not-le, not-suc-le_self, not-suc-le-zero, zero-add}
 use native.Mathlib.Omega.{arith}
 use lib.Dec.{T, ltb, leb→le, le→leb, ltb→lt, lt→ltb, nltb→le}
 use lib.IntN.{ℤ, pos, negsuc, neg_ℤ, nat_abs, sub_ℕ, ◌+ℤ◌, ◌-ℤ◌, ◌*ℤ◌, +ℤ_one}
@@ -72,7 +72,7 @@ module _ (d : ℕ) (p : 0 < d) where
   pub up_ℤ_least : (z k : ℤ) → z ≤ℤ (k *ℤ pos d) → up_ℤ z d ≤ℤ k
   unfolding up_ℤ
   up_ℤ_least (pos n) (pos m) h = le_z_yes (le→leb (up_of n d) m (up_least n d p m (leb→le n (m * d) h.le)))
-  up_ℤ_least (pos n) (negsuc m) h = absurd (not_below_neg (suc m * d) n (mul_pos (omega arith) p) h.le)
+  up_ℤ_least (pos n) (negsuc m) h = absurd (not_below_neg (suc m * d) n (mul-pos (omega arith) p) h.le)
   up_ℤ_least (negsuc n) (pos m) h = le_z_yes (neg_le_pos (down_of (suc n) d) m)
   up_ℤ_least (negsuc n) (negsuc m) h =
       le_z_yes (neg_le_neg (down_of (suc n) d) m (down_greatest (suc n) d p (suc m) (neg_ge_back (suc m * d) n h.le)))

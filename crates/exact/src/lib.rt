@@ -1,5 +1,7 @@
 // Whole-number arithmetic that loses nothing: quotients rounded to a stated side, past 64 bits too, the greatest
 // root, and the one f64 nearest to a quotient.
+#![tactic(auto)]
+
 mod float;
 mod quotient;
 mod ratio;

@@ -7,7 +7,7 @@ ghost use Rattle.exact.specs.Wide.{base, value_of};
 const BASE: u64 = 4294967296;
 
 // high * 2 to the 32, and low.
-#[derive(Drop)]
+#[derive(Clone, Copy)]
 pub struct Wide {
     pub high: u64,
     pub low: u32,

@@ -1,4 +1,6 @@
 // Document 01's example tank, filled in step by step, judged by D100 and printed.
+#![tactic(auto)]
+
 use entries::{Anchors, Course, Sheet, Site, Tank};
 use judge::judging;
 use libc::STDOUT_FILENO;

@@ -4,7 +4,7 @@ ghost use Rattle.fields.specs.Order.{◌when◌, accepts, or_else};
 
 use crate::refusal::Refusal;
 
-#[derive(Drop)]
+#[derive(Clone, Copy)]
 pub enum Answer {
     Accepted,
     Refused(Refusal),

@@ -1,5 +1,7 @@
 // What the crates above share, with nothing of a sheet: the fields' ranges, the bolt chart, the refusals and
 // what their orders answer.
+#![tactic(auto)]
+
 mod answer;
 mod bolt;
 mod range;

@@ -3,7 +3,7 @@
 ghost use Rattle.std.specs.Prelude.{◌≡◌};
 ghost use Rattle.fields.specs.Refusal.{code_of, plain};
 
-#[derive(Drop)]
+#[derive(Clone, Copy)]
 pub enum Refusal {
     TooFewBytes,
     TooManyBytes,
@@ -32,7 +32,7 @@ pub enum Refusal {
 }
 
 // A refusal as the documents have it: its number, and the field that it gives, or 0 where it gives none.
-#[derive(Drop)]
+#[derive(Clone, Copy)]
 pub struct Code {
     pub number: u32,
     pub field: u32,

@@ -6,14 +6,14 @@ use crate::chart::{FA, FA_STEP, FV, FV_STEP, adjusted};
 use fields::Refusal;
 
 // SDS over 3,750,000 and SD1 over 1,500,000, in g; Av in thousandths of g.
-#[derive(Drop)]
+#[derive(Clone, Copy)]
 pub struct DesignValues {
     pub sds: u32,
     pub sd1: u32,
     pub vertical: u32,
 }
 
-#[derive(Drop)]
+#[derive(Clone, Copy)]
 pub enum GroundMotion {
     Given(DesignValues),
     Refused(Refusal),
@@ -26,7 +26,7 @@ const MOST_MAPPED: u32 = 3000;
 // Refused: 41, 40.
 pub fn ground_motion(class: u8, ss: u32, s1: u32) -> GroundMotion
     ensures value { result ≡ ground_motion class ss s1 }
-    ensures result_value { motion_code result ≡ ground_motion_code class ss s1 }
+    ensures code { motion_code result ≡ ground_motion_code class ss s1 }
     ensures reply_justified { ReplyJustified class ss s1 result }
 {
     if class < b'A' {

@@ -14,8 +14,8 @@ use rules::method::Method;
 
 // The line of a course whose bottom edge is at this height.
 fn line(method: Method, tank: Tank, edge: u32, c: Course) -> CourseLine
-    requires t { T (clear (tank_flaws tank)) }
-    requires t_2 { T (clear (course_flaws c)) }
+    requires tank_clear { T (clear (tank_flaws tank)) }
+    requires course_clear { T (clear (course_flaws c)) }
     ensures { result ≡ line_of method tank edge c }
 {
     let h = hoop::head(tank.level, edge);
@@ -34,8 +34,8 @@ fn line(method: Method, tank: Tank, edge: u32, c: Course) -> CourseLine
 // The lines of the first n courses, and blank ones up to twelve.
 pub(crate) fn lines(method: Method, tank: Tank, courses: [Course; 12], n: usize) -> [CourseLine; 12]
     requires n_bound { n ≤ 12 }
-    requires t { T (clear (tank_flaws tank)) }
-    requires t_2 { T (courses_clear (take n courses)) }
+    requires tank_clear { T (clear (tank_flaws tank)) }
+    requires courses_clear { T (courses_clear (take n courses)) }
     requires courses_bound { height_of (take n courses) ≤ most_height }
     ensures { result ≡ padded blank_line (lines_of method tank 0 (take n courses)) }
 {

@@ -19,7 +19,7 @@ use sheet::complete::{Completed, Completeness, Entries};
 // word. Refused: 30, 42, 32, 35, 36, 38, 37.
 pub fn judge(method: u32, s: Sheet) -> Judgement
     ensures value { result ≡ judged method s }
-    ensures answer_value { answer_code result.answer ≡ judge_code method s }
+    ensures code { answer_code result.answer ≡ judge_code method s }
     ensures justified_by { JustifiedBy method (entries_of s) result }
 {
     let completed = complete::of_sheet(s);
@@ -31,7 +31,7 @@ pub fn judge(method: u32, s: Sheet) -> Judgement
 pub fn judge_completed(method: u32, c: Completed) -> Judgement
     requires { c.status ≡ Completeness.Complete → Valid c.entries }
     ensures value { result ≡ judged_completed method c }
-    ensures answer_value { answer_code result.answer ≡ completed_judge_code method c }
+    ensures code { answer_code result.answer ≡ completed_judge_code method c }
     ensures justified_by { JustifiedBy method c.entries result }
 {
     let status = c.status;

@@ -14,8 +14,8 @@ use stability::{anchors, earthquake};
 
 // T, the resistance to overturning by earthquake, in foot-pounds.
 fn resistance(tank: Tank, site: Site) -> u64
-    requires t { T (clear (tank_flaws tank)) }
-    requires t_2 { T (clear (site_flaws site)) }
+    requires tank_clear { T (clear (tank_flaws tank)) }
+    requires site_clear { T (clear (site_flaws site)) }
     ensures { result ≡ resistance_on tank site }
 {
     let shell = earthquake::shell_weight(tank.weight, site.vertical, tank.diameter);
@@ -25,8 +25,8 @@ fn resistance(tank: Tank, site: Site) -> u64
 }
 
 fn self_checks(tank: Tank, site: Site, moment: u64) -> SelfChecks
-    requires t { T (clear (tank_flaws tank)) }
-    requires t_2 { T (clear (site_flaws site)) }
+    requires tank_clear { T (clear (tank_flaws tank)) }
+    requires site_clear { T (clear (site_flaws site)) }
     requires moment_le_most_moment { moment ≤ most_moment }
     ensures { result ≡ self_checks tank site moment }
 {
@@ -43,9 +43,9 @@ fn self_checks(tank: Tank, site: Site, moment: u64) -> SelfChecks
 }
 
 fn anchor_checks(tank: Tank, site: Site, a: Anchors, moment: u64) -> AnchorChecks
-    requires t { T (clear (tank_flaws tank)) }
-    requires t_2 { T (clear (site_flaws site)) }
-    requires t_3 { T (clear (anchor_flaws tank.diameter a)) }
+    requires tank_clear { T (clear (tank_flaws tank)) }
+    requires site_clear { T (clear (site_flaws site)) }
+    requires anchors_clear { T (clear (anchor_flaws tank.diameter a)) }
     requires number_nonzero { 0 < a.number }
     requires moment_le_most_moment { moment ≤ most_moment }
     ensures { result ≡ anchor_checks tank site a moment }
@@ -66,9 +66,9 @@ fn anchor_checks(tank: Tank, site: Site, a: Anchors, moment: u64) -> AnchorCheck
 }
 
 pub(crate) fn standing(tank: Tank, site: Site, a: Anchors, moment: u64) -> Standing
-    requires t { T (clear (tank_flaws tank)) }
-    requires t_2 { T (clear (site_flaws site)) }
-    requires t_3 { T (clear (anchor_flaws tank.diameter a)) }
+    requires tank_clear { T (clear (tank_flaws tank)) }
+    requires site_clear { T (clear (site_flaws site)) }
+    requires anchors_clear { T (clear (anchor_flaws tank.diameter a)) }
     requires moment_le_most_moment { moment ≤ most_moment }
     ensures { result ≡ standing_of tank site a moment }
 {

@@ -12,7 +12,7 @@ use fields::{Answer, Refusal};
 // What the bytes are refused for before any step: 11 for under two bytes, 13, 11, 12, 14, 15.
 pub fn header_flaw(bytes: &[u8]) -> Answer
     ensures value { result ≡ first_of (read_order version1 bytes.now) }
-    ensures result_value { answer_code result ≡ first_code (read_order version1 bytes.now) }
+    ensures code { answer_code result ≡ first_code (read_order version1 bytes.now) }
 {
     if bytes.len() < 2 {
         return Answer::Refused(Refusal::TooFewBytes);

@@ -1,1 +1,2 @@
 // What every layer says of lists and the kit's libraries do not: definitions and laws, and no code.
+#![tactic(auto)]

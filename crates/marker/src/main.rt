@@ -1,5 +1,7 @@
 // The printing program: reads a sheet on standard input, and writes its report or its refusal. A read that
 // fails counts as the end of the input.
+#![tactic(auto)]
+
 use libc::{STDIN_FILENO, STDOUT_FILENO};
 use text::marker;
 use text::marker::MOST_BYTES;

@@ -16,7 +16,7 @@ const METHOD: u32 = 1;
 // Reads the sheet that these bytes hold, and judges it by D100. Refused: as reading is, then as judging is.
 pub fn judge_bytes(bytes: &[u8]) -> Judgement
     ensures value { result ≡ marked bytes.now }
-    ensures answer_value { answer_code result.answer ≡ mark_code bytes.now }
+    ensures code { answer_code result.answer ≡ mark_code bytes.now }
     ensures justified { Justified D100 (entries_of (read_in bytes.now).sheet) result }
 {
     let completed = complete::of_bytes(bytes);

@@ -2,7 +2,7 @@
 -- figure and within the margin of it. Where a rule changes, these are proved again, and what is said of the word stays.
 -- Assumes nothing.
 use Prim.Native.Nat.{ℕ, ◌*◌, ◌≤◌, ◌<◌, ◌^◌}
-use native.Mathlib.Nat.{mul_pos}
+use native.Mathlib.Nat.{mul-pos}
 use native.Mathlib.Omega.{arith}
 use lib.Dec.{T}
 use Rattle.exact.specs.Quotient.{Ratio, whole, plus, AtLeast, positive_part}
@@ -41,7 +41,7 @@ module _ (t : Tank) (x : Site) (Hs : ℕ) where
 
   pub moment_with_den : 0 < (plus (moment_exact_on t x Hs) (moment_margin t.diameter Hs)).den
   moment_with_den =
-      mul_pos (moment_den x.exposure x.importance x.speed t.diameter Hs) (moment_margin_den t.diameter Hs)
+      mul-pos (moment_den x.exposure x.importance x.speed t.diameter Hs) (moment_margin_den t.diameter Hs)
 
 module _ (t : Tank) (h : T (clear (tank_flaws t))) where
   abbrev tank : TankIn t

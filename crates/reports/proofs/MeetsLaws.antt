@@ -6,7 +6,7 @@ use mathlib.Core.Bool.{Bool, true, false, cond, ◌&&◌}
 use mathlib.Core.List.{List, [], ◌∷◌}
 use mathlib.Core.Logic.{◌⊎◌, inl, inr}
 use Prim.Native.Nat.{ℕ, ◌+◌, ◌*◌, max, ◌≤◌, ◌<◌}
-use native.Mathlib.Nat.{eq-zero-or-pos, lt_of_not-le, mul-le-mul_right, not_le_of_lt}
+use native.Mathlib.Nat.{eq-zero-or-pos, lt_of_not-le, mul-le-mul_right, not-le_of_lt}
 use native.Mathlib.Decide.{dec_le}
 use native.Mathlib.Omega.{arith}
 use lib.Dec.{T, leb}
@@ -69,7 +69,7 @@ module _ (method : Method) (t : Tank) (y : ℕ) (c : Course) (k : T (clear (cour
 
   course_short : (Hs : ℕ) → holds (line_of method t y c).verdict ≡ false → CourseMeets (margins_for t.diameter Hs) t (need_exact_on method t y c) c → ⊥
   course_short Hs e m =
-      not_le_of_lt (leb-false _ _ (sym line_holds ∙ e))
+      not-le_of_lt (leb-false _ _ (sym line_holds ∙ e))
       (required_least (need_on method t y c) c.allowance t.diameter c.plate
       (plate_near (need_exact_on method t y c) plate_margin (need_on method t y c) c.allowance c.plate (need_rounded method t y c k).near m.hoop)
       m.floor)
@@ -190,7 +190,7 @@ module _ (t : Tank) (k : T (clear (tank_flaws t))) (x : Site) (Hs : ℕ) where
     anchors_short e m = go (one_fails (holds checks.spacing) (holds checks.strength) e)
       where
         go : (holds checks.spacing ≡ false) ⊎ (holds checks.strength ≡ false) → ⊥
-        go (inl f) = not_le_of_lt (leb-false _ _ (sym spacing_is ∙ f)) m.spacing
+        go (inl f) = not-le_of_lt (leb-false _ _ (sym spacing_is ∙ f)) m.spacing
         go (inr f) =
             let s : 19950 * A < 1000 * max by_wind by_quake = leb-false _ _ (sym strength_is ∙ f) in
             let w = strong_near t k a n p (wind_weight t) (wind_weight_in t k) (plus exact (moment_margin t.diameter Hs)) M (moment_with_den t x Hs) (omega (arith, rounded.near)) m.wind in

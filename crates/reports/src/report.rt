@@ -9,7 +9,7 @@ use stability::earthquake::Uplift;
 
 // One course: its hoop need without the allowance, the required plate and its plate, in mils. The use of
 // its verdict is required over plate.
-#[derive(Drop)]
+#[derive(Clone, Copy)]
 pub struct CourseLine {
     pub need: u64,
     pub required: u64,
@@ -18,7 +18,7 @@ pub struct CourseLine {
 }
 
 // A self_anchored tank; `resistance` is T in foot-pounds.
-#[derive(Drop)]
+#[derive(Clone, Copy)]
 pub struct SelfChecks {
     pub wind: Verdict,
     pub resistance: u64,
@@ -27,7 +27,7 @@ pub struct SelfChecks {
 }
 
 // An anchored tank; the net pulls per anchor are in pounds, up positive.
-#[derive(Drop)]
+#[derive(Clone, Copy)]
 pub struct AnchorChecks {
     pub wind_pull: i64,
     pub quake_pull: i64,
@@ -36,28 +36,28 @@ pub struct AnchorChecks {
 }
 
 // Whether the tank is self_anchored or anchored (document 01's way of standing), with nothing of the other.
-#[derive(Drop)]
+#[derive(Clone, Copy)]
 pub enum Standing {
     SelfAnchored(SelfChecks),
     Anchored(AnchorChecks),
 }
 
 // The two checks of its way of standing: wind and earthquake, or spacing and strength.
-#[derive(Drop)]
+#[derive(Clone, Copy)]
 pub struct Checks {
     pub first: Verdict,
     pub second: Verdict,
 }
 
 // The two uses of its way of standing: wind and earthquake, or spacing and strength.
-#[derive(Drop)]
+#[derive(Clone, Copy)]
 pub struct Uses {
     pub first: f64,
     pub second: f64,
 }
 
 // What the tank is called (document 01's word).
-#[derive(Drop)]
+#[derive(Clone, Copy)]
 pub enum Word {
     Sound,
     Short,
@@ -65,7 +65,7 @@ pub enum Word {
 
 // A line for each course from the bottom up, `count` of them; the lines past them are blank. Pressure in
 // hundredths of a psf, moment in foot-pounds.
-#[derive(Drop)]
+#[derive(Clone, Copy)]
 pub struct Report {
     pub lines: [CourseLine; 12],
     pub count: usize,
@@ -77,7 +77,7 @@ pub struct Report {
 }
 
 // The answer to judging, and the report; beside a refusal the report is blank.
-#[derive(Drop)]
+#[derive(Clone, Copy)]
 pub struct Judgement {
     pub answer: Answer,
     pub report: Report,

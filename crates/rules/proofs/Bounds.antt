@@ -3,7 +3,7 @@
 -- Assumes nothing.
 use mathlib.Core.Bool.{Bool, true, false, cond}
 use Prim.Native.Nat.{ℕ, ◌*◌, ◌≤◌}
-use native.Mathlib.Nat.{mul-le-mul, mul_pos}
+use native.Mathlib.Nat.{mul-le-mul, mul-pos}
 use native.Mathlib.Omega.{arith}
 use lib.Dec.{leb}
 use Rattle.exact.specs.Sides.{Sides}
@@ -26,7 +26,7 @@ floor_most D = cond_most (leb D 60000) (omega arith) (cond_most (leb D 144000) (
 pub need_most : (h D s E : ℕ) → h ≤ most_height → In 1 D → In 18 s → In 19 E → hoop_need h D s E ≤ most_need
 unfolding hoop_need hoop_exact
 need_most h D s E a d b e =
-    up_least (13 * h * D) (72 * s * E) (mul_pos (omega arith) (omega arith)) most_need
+    up_least (13 * h * D) (72 * s * E) (mul-pos (omega arith) (omega arith)) most_need
     (omega (arith, mul-le-mul a d.1, mul-le-mul b.0 e.0))
 
 pub head_most : (H y : ℕ) → In 2 H → head_of H y ≤ most_height

@@ -4,7 +4,7 @@
 use mathlib.Core.List.{[], ◌∷◌, map}
 use mathlib.Core.Path.{◌≡◌, refl}
 use Prim.Native.Nat.{ℕ, ◌+◌, ◌≤◌, ◌<◌}
-use native.Mathlib.Nat.{mul_pos}
+use native.Mathlib.Nat.{mul-pos}
 use native.Mathlib.Omega.{arith}
 use Rattle.exact.specs.Quotient.{AtLeast}
 use Rattle.exact.proofs.QuotientLaws.{rounded_up}
@@ -27,7 +27,7 @@ first_foot h l = omega arith
 -- the divisors are above 0
 pub hoop_den : (h D s E : ℕ) → 0 < s → 0 < E → 0 < (hoop_exact h D s E).den
 unfolding hoop_exact
-hoop_den h D s E p q = mul_pos (omega arith) q
+hoop_den h D s E p q = mul-pos (omega arith) q
 
 pub plate_margin_den : 0 < plate_margin.den
 unfolding plate_margin

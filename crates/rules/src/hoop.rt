@@ -34,9 +34,9 @@ pub fn design_head(method: Method, h: u32) -> u32
 // The hoop need in mils, without the allowance; h as the method has it.
 pub fn need(h: u32, diameter: u32, stress: u32, efficiency: u32) -> u64
     requires h_le_most_height { h ≤ most_height }
-    requires fact { In 1 diameter }
-    requires fact_2 { In 18 stress }
-    requires fact_3 { In 19 efficiency }
+    requires diameter_in { In 1 diameter }
+    requires stress_in { In 18 stress }
+    requires efficiency_in { In 19 efficiency }
     ensures { result ≡ hoop_need h diameter stress efficiency }
 {
     let num = 13 * h as u64 * diameter as u64;
@@ -58,7 +58,7 @@ pub fn floor(diameter: u32) -> u64
 // The required plate: the need with the allowance or the floor, whichever is larger.
 pub fn required(need: u64, allowance: u32, diameter: u32) -> u64
     requires need_le_most_need { need ≤ most_need }
-    requires fact { In 17 allowance }
+    requires allowance_in { In 17 allowance }
     ensures { result ≡ required_plate need allowance diameter }
 {
     let least = floor(diameter);
@@ -72,7 +72,7 @@ pub fn required(need: u64, allowance: u32, diameter: u32) -> u64
 // Whether the plate is at least the required one.
 pub fn check(required: u64, plate: u32) -> Verdict
     requires required_le_most_required { required ≤ most_required }
-    requires fact { In 16 plate }
+    requires plate_in { In 16 plate }
     ensures value { result ≡ course_verdict required plate }
     ensures verdict_for { VerdictFor required plate result }
 {

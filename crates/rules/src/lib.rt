@@ -1,6 +1,8 @@
 // Plate by either method (document 01; document 02, S-3) and wind, one module to a subject, a function to a figure;
 // and the verdict of a check. A function asks that its fields are in range and that the figures handed to it are at
 // most what the rules can give; nothing here knows of sheets.
+#![tactic(auto)]
+
 pub mod hoop;
 pub mod method;
 pub mod verdict;

@@ -5,13 +5,13 @@ ghost use Rattle.rules.specs.Method.{chosen_method, choice_code, method_code, Ch
 use fields::Refusal;
 
 // AWWA D100, and the one-foot method of API 650.
-#[derive(Drop)]
+#[derive(Clone, Copy)]
 pub enum Method {
     D100,
     Api650,
 }
 
-#[derive(Drop)]
+#[derive(Clone, Copy)]
 pub enum MethodChoice {
     Chosen(Method),
     Refused(Refusal),
@@ -20,7 +20,7 @@ pub enum MethodChoice {
 // The method that a caller picks by its number. Refused: 42.
 pub fn method_of(number: u32) -> MethodChoice
     ensures value { result ≡ chosen_method number }
-    ensures result_value { choice_code result ≡ method_code number }
+    ensures code { choice_code result ≡ method_code number }
     ensures chosen_exactly { ChosenExactly number result }
 {
     match number {

@@ -4,7 +4,7 @@ ghost use Rattle.exact.specs.Sides.{Sides};
 ghost use Rattle.rules.specs.Verdict.{verdict_of, holds, used, VerdictFor};
 
 // Whether the check holds or falls short, with its use.
-#[derive(Drop)]
+#[derive(Clone, Copy)]
 pub enum Verdict {
     Holds(f64),
     Short(f64),

@@ -8,9 +8,9 @@ use fields::Refusal;
 
 // The pressure in hundredths of a psf.
 pub fn pressure(exposure: u32, importance: u32, speed: u32) -> u64
-    requires fact { In 8 exposure }
-    requires fact_2 { In 9 importance }
-    requires fact_3 { In 7 speed }
+    requires exposure_in { In 8 exposure }
+    requires importance_in { In 9 importance }
+    requires speed_in { In 7 speed }
     ensures { result ≡ pressure_of exposure importance speed }
 {
     let v = speed as u64;
@@ -25,7 +25,7 @@ pub fn pressure(exposure: u32, importance: u32, speed: u32) -> u64
 // The overturning moment in foot-pounds of a pressure on a shell of this diameter and height.
 pub fn moment(pressure: u64, diameter: u32, height: u32) -> u64
     requires pressure_le_most_pressure { pressure ≤ most_pressure }
-    requires fact { In 1 diameter }
+    requires diameter_in { In 1 diameter }
     requires height_le_most_height { height ≤ most_height }
     ensures { result ≡ moment_of pressure diameter height }
 {
@@ -34,7 +34,7 @@ pub fn moment(pressure: u64, diameter: u32, height: u32) -> u64
 }
 
 // The pressure of the standard site (Kz 109, I 115), or the refusal of a speed outside the range of field 7.
-#[derive(Drop)]
+#[derive(Clone, Copy)]
 pub enum SitePressure {
     Given(u64),
     Refused(Refusal),
@@ -43,7 +43,7 @@ pub enum SitePressure {
 // The standard site's pressure, by the rule for any site.
 pub fn standard_site(speed: u32) -> SitePressure
     ensures value { result ≡ standard_site speed }
-    ensures result_value { site_code_of result ≡ standard_code speed }
+    ensures code { site_code_of result ≡ standard_code speed }
 {
     if !fields::in_range(7, speed) {
         return SitePressure::Refused(Refusal::OutOfRange(7));

@@ -4,7 +4,7 @@ use entries::{Anchors, Course, Site, Tank};
 use fields::Refusal;
 
 // What a complete sheet holds, with the height of its shell. Judging, writing and demand 3 take these, and nothing else of a sheet.
-#[derive(Drop)]
+#[derive(Clone, Copy)]
 pub struct Entries {
     pub tank: Tank,
     pub site: Site,
@@ -15,7 +15,7 @@ pub struct Entries {
 }
 
 // 30 stands apart from the other refusals, since judging refuses 42 between it and 32 (document 02, S-3).
-#[derive(Drop)]
+#[derive(Clone, Copy)]
 pub enum Completeness {
     Unreachable,
     Refused(Refusal),
@@ -23,7 +23,7 @@ pub enum Completeness {
 }
 
 // The entries are those of a complete sheet; beside a refusal they are blank.
-#[derive(Drop)]
+#[derive(Clone, Copy)]
 pub struct Completed {
     pub status: Completeness,
     pub entries: Entries,

@@ -9,7 +9,7 @@ use parts::{slots, stated};
 // Whether some run of steps leaves this sheet.
 pub fn is_reachable(s: Sheet) -> bool
     ensures value { result ≡ reachable s }
-    ensures variant { T result ↔ LeftByRun s }
+    ensures left_by_run { T result ↔ LeftByRun s }
 {
     let courses = s.courses;
     let n = s.count;

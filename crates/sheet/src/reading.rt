@@ -15,7 +15,7 @@ use entries::{Anchors, AnchorsEntry, Course, Sheet, Site, SiteEntry, Tank, TankE
 use fields::{Answer, Refusal};
 
 // The answer to reading, the sheet, and the height of its courses.
-#[derive(Drop)]
+#[derive(Clone, Copy)]
 pub struct Reading {
     pub answer: Answer,
     pub sheet: Sheet,
@@ -26,7 +26,7 @@ pub struct Reading {
 // 11 for under two bytes, 13, 11, 12, 14, 15, and then as the steps are.
 pub fn read(bytes: &[u8]) -> Reply
     ensures value { result ≡ read_in bytes.now }
-    ensures answer_value { answer_code result.answer ≡ read_code bytes.now }
+    ensures code { answer_code result.answer ≡ read_code bytes.now }
     ensures writes_back { WritesBack bytes.now result }
 {
     let reading = read_with_height(bytes);
@@ -38,7 +38,7 @@ pub fn read(bytes: &[u8]) -> Reply
 // The same with the height of the courses, so that it need not be added up again.
 pub fn read_with_height(bytes: &[u8]) -> Reading
     ensures value { result ≡ with_height (read_in bytes.now) }
-    ensures answer_value { answer_code result.answer ≡ read_code bytes.now }
+    ensures code { answer_code result.answer ≡ read_code bytes.now }
 {
     let flaw = layout::reading::header_flaw(bytes);
     if let Answer::Refused(refusal) = flaw {

@@ -14,7 +14,7 @@ use fields::{Answer, Refusal, or_else};
 use parts::slots;
 
 // The answer to a step, or to reading, and the sheet after it.
-#[derive(Drop)]
+#[derive(Clone, Copy)]
 pub struct Reply {
     pub answer: Answer,
     pub sheet: Sheet,
@@ -23,8 +23,8 @@ pub struct Reply {
 // Fields 1 to 6, once. Refused: 30, 31, 16, 17.
 pub fn state_tank(s: Sheet, t: Tank) -> Reply
     ensures value { result ≡ stated s (Step.state_tank t) }
-    ensures answer_value { answer_code result.answer ≡ first_code (unreachable s ∷ order_of s (Step.state_tank t)) }
-    ensures anchors_value { result.sheet.anchors ≡ anchors_after s.anchors (Step.state_tank t) result.answer }
+    ensures code { answer_code result.answer ≡ first_code (unreachable s ∷ order_of s (Step.state_tank t)) }
+    ensures anchors { result.sheet.anchors ≡ anchors_after s.anchors (Step.state_tank t) result.answer }
 {
     if !reach::is_reachable(s) {
         return refuse(s, Refusal::Unreachable);
@@ -35,8 +35,8 @@ pub fn state_tank(s: Sheet, t: Tank) -> Reply
 // Fields 7 to 11; the later ones count. Refused: 30, 32, 16.
 pub fn state_site(s: Sheet, x: Site) -> Reply
     ensures value { result ≡ stated s (Step.state_site x) }
-    ensures answer_value { answer_code result.answer ≡ first_code (unreachable s ∷ order_of s (Step.state_site x)) }
-    ensures anchors_value { result.sheet.anchors ≡ anchors_after s.anchors (Step.state_site x) result.answer }
+    ensures code { answer_code result.answer ≡ first_code (unreachable s ∷ order_of s (Step.state_site x)) }
+    ensures anchors { result.sheet.anchors ≡ anchors_after s.anchors (Step.state_site x) result.answer }
 {
     if !reach::is_reachable(s) {
         return refuse(s, Refusal::Unreachable);
@@ -47,8 +47,8 @@ pub fn state_site(s: Sheet, x: Site) -> Reply
 // Fields 12 to 14; the later ones count. Refused: 30, 32, 16, 18.
 pub fn state_anchors(s: Sheet, a: Anchors) -> Reply
     ensures value { result ≡ stated s (Step.state_anchors a) }
-    ensures answer_value { answer_code result.answer ≡ first_code (unreachable s ∷ order_of s (Step.state_anchors a)) }
-    ensures anchors_value { result.sheet.anchors ≡ anchors_after s.anchors (Step.state_anchors a) result.answer }
+    ensures code { answer_code result.answer ≡ first_code (unreachable s ∷ order_of s (Step.state_anchors a)) }
+    ensures anchors { result.sheet.anchors ≡ anchors_after s.anchors (Step.state_anchors a) result.answer }
 {
     if !reach::is_reachable(s) {
         return refuse(s, Refusal::Unreachable);
@@ -59,8 +59,8 @@ pub fn state_anchors(s: Sheet, a: Anchors) -> Reply
 // Fields 15 to 19, of the next course up. Refused: 30, 32, 33, 16, 17, 34.
 pub fn add_course(s: Sheet, c: Course) -> Reply
     ensures value { result ≡ stated s (Step.add_course c) }
-    ensures answer_value { answer_code result.answer ≡ first_code (unreachable s ∷ order_of s (Step.add_course c)) }
-    ensures anchors_value { result.sheet.anchors ≡ anchors_after s.anchors (Step.add_course c) result.answer }
+    ensures code { answer_code result.answer ≡ first_code (unreachable s ∷ order_of s (Step.add_course c)) }
+    ensures anchors { result.sheet.anchors ≡ anchors_after s.anchors (Step.add_course c) result.answer }
 {
     if !reach::is_reachable(s) {
         return refuse(s, Refusal::Unreachable);

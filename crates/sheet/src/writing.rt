@@ -2,7 +2,7 @@
 use fields::Refusal;
 
 // How many bytes of the buffer are the sheet, or why there are none.
-#[derive(Drop)]
+#[derive(Clone, Copy)]
 pub enum Written {
     Bytes(usize),
     Refused(Refusal),

@@ -7,7 +7,7 @@ use mathlib.Core.Logic.{◌⊎◌, inl, inr}
 use mathlib.Core.Bool.{Bool, true, false, not, cond}
 use mathlib.Core.List.{[], ◌∷◌}
 use Prim.Native.Nat.{ℕ, ◌+◌, ◌*◌, max, ◌≤◌, ◌<◌}
-use native.Mathlib.Nat.{eq-zero-or-pos, mul-le-mul_right, mul_pos, lt_of_not-le}
+use native.Mathlib.Nat.{eq-zero-or-pos, mul-le-mul_right, mul-pos, lt_of_not-le}
 use native.Mathlib.Decide.{dec_le}
 use native.Mathlib.Omega.{arith}
 use lib.Dec.{T, ltb, ltb→lt, nltb→le}
@@ -21,7 +21,7 @@ module _ (moment : ℕ) (w : Ratio) (B N : ℕ) (o : 0 < w.den) (p : 0 < N) (q :
   divisor = w.den * (N * B)
 
   divisor_above : 0 < divisor
-  divisor_above = mul_pos o (mul_pos p q)
+  divisor_above = mul-pos o (mul-pos p q)
 
   pub pull_rounded : AtLeastℤ (pull_exact moment w B N) (pull_of moment w B N)
   unfolding pull_exact pull_of

@@ -2,7 +2,7 @@
 -- of every comparison are below 2 ^ 53 with a capacity above 0.
 -- Assumes nothing.
 use Prim.Native.Nat.{ℕ, ◌+◌, ◌-◌, ◌*◌, ◌≤◌, ◌<◌}
-use native.Mathlib.Nat.{add-le-add, le-min, lt_of_le_of_lt, max-le, mul-le-mul, mul-le-mul_left, mul-le-mul_right, mul_pos, sub_le}
+use native.Mathlib.Nat.{add-le-add, le-min, lt_of_le_of_lt, max-le, mul-le-mul, mul-le-mul_left, mul-le-mul_right, mul-pos, sub-le}
 use native.Mathlib.Omega.{arith}
 use lib.Dec.{lit<}
 use lib.IntN.{ℤ}
@@ -41,7 +41,7 @@ whole_weight_in W h = omega arith
 
 pub reduced_weight_in : (W Av : ℕ) → In 3 W → WeightIn (reduced_weight W Av)
 unfolding reduced_weight
-reduced_weight_in W Av h = record { most = mul-le-mul h.1 (sub_le 10000 _); parts = omega arith; most_parts = omega arith }
+reduced_weight_in W Av h = record { most = mul-le-mul h.1 (sub-le 10000 _); parts = omega arith; most_parts = omega arith }
 
 pub up_most : (moment : ℕ) (w : Ratio) → moment ≤ most_moment → WeightIn w → 4800 * moment * w.den ≤ most_up
 up_most moment w h i = mul-le-mul (mul-le-mul_left 4800 h) i.most_parts
@@ -82,7 +82,7 @@ pub self_wind_sides : (M W D : ℕ) → M ≤ most_moment → In 3 W → In 1 D 
 self_wind_sides M W D h w d = record {
   need_exact = omega arith;
   capacity_exact = lt_of_le_of_lt (mul-le-mul w.1 d.1) (lit< tt);
-  capacity_above = mul_pos w.0 (omega arith);
+  capacity_above = mul-pos w.0 (omega arith);
 }
 
 pub quake_sides : (Ms T : ℕ) → Ms < 4294967296 → 0 < T → T ≤ most_resistance → Sides (1000 * Ms) (1540 * T)

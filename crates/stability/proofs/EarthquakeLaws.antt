@@ -3,7 +3,7 @@
 -- Assumes nothing.
 use mathlib.Core.Logic.{◌⊎◌, inl, inr}
 use Prim.Native.Nat.{ℕ, ◌+◌, ◌-◌, ◌*◌, ◌^◌, ◌≤◌, ◌<◌}
-use native.Mathlib.Nat.{le_of_lt, le_trans, min-eq_left, min-le_left, lt_of_le_of_lt, lt_of_not-le, not_le_of_lt, mul-le-mul, mul-le-mul_right, mul_pos}
+use native.Mathlib.Nat.{le_of_lt, le_trans, min-eq_left, min-le_left, lt_of_le_of_lt, lt_of_not-le, not-le_of_lt, mul-le-mul, mul-le-mul_right, mul-pos}
 use native.Mathlib.Decide.{dec_le}
 use native.Mathlib.Omega.{arith}
 use lib.Dec.{lit<}
@@ -38,7 +38,7 @@ square_safe : (x y w most : ℕ) → x ≤ y * w → 12000000 * w * w ≤ most �
 square_safe x y w most h k = omega (arith, mul-le-mul h h, mul-le-mul_right (y * y) k)
 
 square_near : (x y w most : ℕ) → 0 < y → y * (w + 1) ≤ x → most < 12000000 * (w + 1) * (w + 1) → most * (y * y) < 12000000 * (x * x)
-square_near x y w most p h k = omega (arith, mul-le-mul h h, mul-le-mul_right (y * y) k, mul_pos p p)
+square_near x y w most p h k = omega (arith, mul-le-mul h h, mul-le-mul_right (y * y) k, mul-pos p p)
 
 module _ (a b D2 wn wd wt wL T : ℕ) where
   bears : a ≤ T * b → T * 144000000 ≤ D2 * (wt + wL) → wt * wd ≤ wn
@@ -48,7 +48,7 @@ module _ (a b D2 wn wd wt wL T : ℕ) where
   exceeds : 0 < b → 0 < wd → T * b ≤ a → D2 * (wt + wL) < T * 144000000 + 144000000 → wn < wt * wd + wd
       → wn * (b * 72000000 * D2) + b * 72000000 * D2 * wd * (wL + 1) < 144000000 * (a * 72000000 + (D2 + 72000000) * b) * wd
   exceeds p q h t w =
-      omega (arith, mul-le-mul_right wd h, mul-le-mul_right (b * wd) t, mul-le-mul_right (b * D2) w, mul_pos p q)
+      omega (arith, mul-le-mul_right wd h, mul-le-mul_right (b * wd) t, mul-le-mul_right (b * D2) w, mul-pos p q)
 
 module _ (asked held y w most n : ℕ) where
   carried_safe : asked ≤ held + y * w → w * 11250 ≤ n → 12000000 * w * w ≤ most
@@ -66,7 +66,7 @@ module _ (asked held y w most n : ℕ) where
     where
       go : (asked ≤ held) ⊎ (12000000 * ((asked - held) * (asked - held)) ≤ most * (y * y)) → ⊥
       go (inl l) = omega arith
-      go (inr l) = not_le_of_lt (square_near (asked - held) y w most p (omega arith) r) l
+      go (inr l) = not-le_of_lt (square_near (asked - held) y w most p (omega arith) r) l
 
 -- ---- wL is at most both of its bounds, and within one of the smaller
 
@@ -128,7 +128,7 @@ module _ (W Av D H tb Fy : ℕ) (d : 0 < D) (fits : root_most tb Fy H < 2 ^ 64) 
       go : Dec (T * f.den ≤ f.num) → f.num < T * f.den
       go (no l) = lt_of_not-le l
       go (yes l) =
-          absurd (carried_near _ _ _ w _ _ (mul_pos (mul_pos (omega arith) (mul_pos d d)) wd)
+          absurd (carried_near _ _ _ w _ _ (mul-pos (mul-pos (omega arith) (mul-pos d d)) wd)
           (exceeds f.num f.den (D * D) wt.num wt.den (shell_weight W Av D) w T p wd l
           (down_near (D * D * (shell_weight W Av D + w)) 144000000 (omega arith)) (omega (arith, (shell_rounded W Av D d).near)))
           (near_one D H tb Fy fits) k)

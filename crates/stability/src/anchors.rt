@@ -10,7 +10,7 @@ ghost use Rattle.rules.specs.Verdict.{VerdictFor};
 use rules::verdict::{Verdict, verdict_of};
 
 // The dead weight that resists uplift, num / den pounds: a fraction, so that a pull is rounded once.
-#[derive(Drop)]
+#[derive(Clone, Copy)]
 pub struct DeadWeight {
     pub num: u64,
     pub den: u64,
@@ -29,8 +29,8 @@ impl DeadWeight {
 
     // What is left of it in an earthquake with this vertical acceleration.
     pub fn reduced(weight: u32, vertical: u32) -> DeadWeight
-        requires fact { In 3 weight }
-        requires fact_2 { In 10 vertical }
+        requires weight_in { In 3 weight }
+        requires vertical_in { In 10 vertical }
         ensures { fraction result ≡ reduced_weight weight vertical }
     {
         DeadWeight {
@@ -45,8 +45,8 @@ pub fn pull(moment: u64, weight: DeadWeight, circle: u32, count: u32) -> i64
     requires moment_le_most_moment { moment ≤ most_moment }
     requires weight_in { WeightIn (fraction weight) }
     requires circle_nonzero { 0 < circle }
-    requires fact { In 13 circle }
-    requires fact_2 { In 12 count }
+    requires circle_in { In 13 circle }
+    requires count_in { In 12 count }
     ensures { result ≡ pull_of moment (fraction weight) circle count }
 {
     let held = weight.num;
@@ -89,8 +89,8 @@ pub fn strength(pull: u64, area: u32) -> Verdict
 // Whether a tank without anchors stands in the wind.
 pub fn self_wind(moment: u64, weight: u32, diameter: u32) -> Verdict
     requires moment_le_most_moment { moment ≤ most_moment }
-    requires fact { In 3 weight }
-    requires fact_2 { In 1 diameter }
+    requires weight_in { In 3 weight }
+    requires diameter_in { In 1 diameter }
     ensures value { result ≡ wind_verdict moment weight diameter }
     ensures verdict_for { VerdictFor (3600 * moment) (weight * diameter) result }
 {

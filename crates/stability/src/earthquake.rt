@@ -8,7 +8,7 @@ ghost use Rattle.rules.specs.Verdict.{VerdictFor};
 use rules::verdict::{Verdict, verdict_of};
 
 // What an earthquake does to the edge of the bottom.
-#[derive(Drop)]
+#[derive(Clone, Copy)]
 pub enum Uplift {
     None,
     Lift,
@@ -17,9 +17,9 @@ pub enum Uplift {
 
 // wt: the weight of shell and roof, in hundredths of a pound per foot of shell.
 pub fn shell_weight(weight: u32, vertical: u32, diameter: u32) -> u64
-    requires fact { In 3 weight }
-    requires fact_2 { In 10 vertical }
-    requires fact_3 { In 1 diameter }
+    requires weight_in { In 3 weight }
+    requires vertical_in { In 10 vertical }
+    requires diameter_in { In 1 diameter }
     ensures { result ≡ shell_weight weight vertical diameter }
 {
     let num = 2712000 * weight as u64 * (10000 - 4 * vertical as u64);
@@ -30,7 +30,7 @@ pub fn shell_weight(weight: u32, vertical: u32, diameter: u32) -> u64
 pub fn bottom_root(plate: u32, yield_stress: u32, level: u32) -> u64
     requires plate_le_most_plate { plate ≤ most_plate }
     requires yield_stress_le_most_yield { yield_stress ≤ most_yield }
-    requires fact { In 2 level }
+    requires level_in { In 2 level }
     ensures { result ≡ bottom_root plate yield_stress level }
 {
     let tb = plate as u64;
@@ -52,7 +52,7 @@ pub fn bottom_cap(level: u32, diameter: u32) -> u64
 pub fn bottom_weight(plate: u32, yield_stress: u32, level: u32, diameter: u32) -> u64
     requires plate_le_most_plate { plate ≤ most_plate }
     requires yield_stress_le_most_yield { yield_stress ≤ most_yield }
-    requires fact { In 2 level }
+    requires level_in { In 2 level }
     ensures { result ≡ bottom_weight plate yield_stress level diameter }
 {
     let root = bottom_root(plate, yield_stress, level);
@@ -65,7 +65,7 @@ pub fn bottom_weight(plate: u32, yield_stress: u32, level: u32, diameter: u32) -
 
 // T: the resisting moment in foot-pounds.
 pub fn resistance(diameter: u32, shell: u64, bottom: u64) -> u64
-    requires fact { In 1 diameter }
+    requires diameter_in { In 1 diameter }
     requires shell_le_most_shell { shell ≤ most_shell }
     requires bottom_le_most_bottom { bottom ≤ most_bottom }
     ensures { result ≡ resistance_of diameter shell bottom }
@@ -78,7 +78,7 @@ pub fn resistance(diameter: u32, shell: u64, bottom: u64) -> u64
 pub fn uplift_of(moment: u32, resistance: u64) -> Uplift
     requires { resistance ≤ most_resistance }
     ensures value { result ≡ uplift_of moment resistance }
-    ensures result_value { uplift_word result ≡ lift_word_of moment resistance }
+    ensures code { uplift_word result ≡ lift_word_of moment resistance }
 {
     let need = 1000 * moment as u64;
     if need <= 785 * resistance {

@@ -1,6 +1,8 @@
 // Runs vectors for the leaf functions, and for questions without a sheet. Standard input is lines of five
 // numbers: which function, and its arguments, 0 where it has fewer than four. Each line's reply is written on a
 // line of its own. oracle/leaves.py numbers the functions, and makes both the vectors and what is to be written.
+#![tactic(auto)]
+
 mod buckling_leaves;
 mod clamp;
 mod exact_leaves;
@@ -16,7 +18,7 @@ ghost use Rattle.test_leaves.specs.Scan.{Scanned};
 
 use libc::STDIN_FILENO;
 
-#[derive(Drop)]
+#[derive(Clone, Copy)]
 struct Scan {
     value: u64,
     next: usize,

@@ -1,6 +1,8 @@
 // Marks a file of many sheets. Standard input is sheets, each as two bytes of length, big-endian, and then as
 // many bytes; their texts are written one after the other. oracle/sheets.py makes both. Reads and writes go by
 // the buffer.
+#![tactic(auto)]
+
 ghost use Rattle.std.specs.Prelude.{◌+◌, ◌≤◌, ◌<◌, length};
 
 use libc::{STDIN_FILENO, STDOUT_FILENO};

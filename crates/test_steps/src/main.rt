@@ -3,6 +3,8 @@
 // records: a code, two bytes of length, and the payload, whose figures have four bytes each, big-endian.
 // One sheet is held from record to record; each record's reply is written on a line of its own.
 // oracle/records.py has the format, and makes both the scripts and what is to be written.
+#![tactic(auto)]
+
 ghost use Rattle.std.specs.Prelude.{◌≤◌};
 
 mod figures;

@@ -24,8 +24,8 @@ pub fn most_bytes() -> usize
 // Reads the sheet that these bytes hold, judges it by D100, and fills the first bytes of the buffer with the text.
 pub fn mark(bytes: &[u8], out: &mut [u8]) -> Printed
     ensures value { result ≡ (printed (marked_text bytes.now) out.old).answer }
-    ensures out_after { out.new ≡ (printed (marked_text bytes.now) out.old).buffer }
-    ensures result_value { sizes_of result ≡ printed_sizes (marked_text bytes.now) (length out.old) }
+    ensures buffer { out.new ≡ (printed (marked_text bytes.now) out.old).buffer }
+    ensures code { sizes_of result ≡ printed_sizes (marked_text bytes.now) (length out.old) }
     ensures bytes_len_bound { length (marked_text bytes.now) ≤ most_text }
     ensures text_justified { TextJustified D100 (entries_of (read_in bytes.now).sheet) (marked bytes.now) }
 {

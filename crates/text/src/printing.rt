@@ -9,7 +9,7 @@ use reports::report::Judgement;
 pub const MOST_TEXT: usize = 1308;
 
 // Both cases give the length of the text. Where it has no room, no byte of the buffer is touched.
-#[derive(Drop)]
+#[derive(Clone, Copy)]
 pub enum Printed {
     Written(usize),
     TooSmall(usize),
@@ -35,8 +35,8 @@ impl Printed {
 // Fills the first bytes of the buffer with the text, and touches no later one.
 pub fn print(j: Judgement, out: &mut [u8]) -> Printed
     ensures value { result ≡ (printed (text_of j) out.old).answer }
-    ensures out_after { out.new ≡ (printed (text_of j) out.old).buffer }
-    ensures result_value { sizes_of result ≡ printed_sizes (text_of j) (length out.old) }
+    ensures buffer { out.new ≡ (printed (text_of j) out.old).buffer }
+    ensures code { sizes_of result ≡ printed_sizes (text_of j) (length out.old) }
     ensures j_len_bound { length (text_of j) ≤ most_text }
 {
     if out.len() < MOST_TEXT {

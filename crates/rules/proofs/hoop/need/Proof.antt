@@ -1,5 +1,5 @@
 -- `rules::hoop::need` meets its contract: both products fit, and the divisor is above 0. Assumes nothing.
-use native.Mathlib.Nat.{mul_pos}
+use native.Mathlib.Nat.{mul-pos}
 use native.Mathlib.Omega.{arith}
 use borrow.Author.Rules.{rules}
 use Rattle.exact.proofs.Products.{mul_fits}
@@ -20,7 +20,7 @@ mul-den-2 : tie.Need-overflow-mul-den-2
 mul-den-2 c = mul_fits {A = 2880000} (omega arith) c.requires.1.1.1.1 tt
 
 up-requires : tie.Need-up-requires
-up-requires c κs = mul_pos (omega arith) (omega arith)
+up-requires c κs = mul-pos (omega arith) (omega arith)
 
 returns : tie.Need-returns
 unfolding hoop_need hoop_exact

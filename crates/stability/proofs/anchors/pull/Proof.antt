@@ -1,6 +1,6 @@
 -- `stability::anchors::pull` meets its contract: the products fit, so each number is read back from its bits. Assumes nothing.
 use Prim.Native.Nat.{◌*◌}
-use native.Mathlib.Nat.{mul-le-mul, mul-le-mul_left, mul_pos}
+use native.Mathlib.Nat.{mul-le-mul, mul-le-mul_left, mul-pos}
 use lib.Dec.{lt→ltb}
 use lib.Signed.{lt_z_yes}
 use native.Mathlib.Omega.{arith}
@@ -48,7 +48,7 @@ cast-up-signed-3 c = mul_sfits c.requires.1.0.most_parts (mul-le-mul c.requires.
 
 up-signed-requires : tie.Need-up-signed-requires
 up-signed-requires c κs =
-    rw (to_z-of_z (cast-up-signed-3 c)) (lt_z_yes (lt→ltb 0 _ (mul_pos c.requires.1.0.parts (mul_pos (omega arith) c.requires.1.1.0))))
+    rw (to_z-of_z (cast-up-signed-3 c)) (lt_z_yes (lt→ltb 0 _ (mul-pos c.requires.1.0.parts (mul-pos (omega arith) c.requires.1.1.0))))
 
 returns : tie.Need-returns
 unfolding pull_of pull_exact

@@ -4,8 +4,7 @@ use mathlib.Core.Bool.{false}
 use lib.Dec.{T}
 use lib.Ieee.{Float, nan, inf, fin, is_nan, ne, to_bits}
 use lib.Ieee.Compare.{differs_from_itself, nan_differs}
-use Rattle.exact.proofs.float.bits.Statement.{statement}
-use Rattle.exact.proofs.float.bits.Tie as tie
+use Rattle.exact.proofs.float.bits.Goals as goal
 
 number : (x : Float) → ne x x ≡ false → is_nan x ≡ false
 unfolding is_nan
@@ -13,15 +12,12 @@ number nan t = absurd (subst T (sym nan_differs ∙ t) tt)
 number (inf s) t = refl
 number (fin s m e) t = refl
 
-returns : tie.Need-returns
+pub returns-then-x : goal.returns-then-x
 unfolding to_bits
-returns c = rw (differs_from_itself c.before.args.x (subst T (sym c.if1.true) tt))
+returns-then-x c = rw (differs_from_itself c.args.x (subst T (sym c.if-x.true) tt))
 
-float-to-bits-result : tie.Need-float-to-bits-result
-float-to-bits-result c = rw (number c.before.args.x c.if1.false) tt
+pub float_to_bits-result : goal.float_to_bits-result
+float_to_bits-result c = rw (number c.args.x c.if-x.false) tt
 
-returns-2 : tie.Need-returns-2
-returns-2 c = refl
-
-pub bits-spec : {M : Type 1} → statement M
-bits-spec = tie.close (tie.spec returns float-to-bits-result returns-2)
+pub returns : goal.returns
+returns c = refl

@@ -8,18 +8,10 @@ use native.Mathlib.Omega.{arith}
 use mathlib.Core.Bool.{cond}
 use lib.Dec.{leb, lit<}
 use lib.Pow.{pow-lt, pow_pos}
-use borrow.Author.Rules.{rules}
 use borrow.Author.Tests.{le-leb, lt-leb}
 use Rattle.exact.specs.Greatest.{tried, low_bits, greatest_below}
 use Rattle.exact.specs.Root.{square_within, root_of}
-use Rattle.exact.proofs.root.greatest_root.Statement.{statement}
-use Rattle.exact.proofs.root.greatest_root.Tie as tie
-
-abbrev invariant-loop : tie.invariant-loop
-invariant-loop factor most square n₀ k₀ n k = (low_bits k (square_within square) n ≡ low_bits 32 (square_within square) 0) × (n + 2 ^ k ≤ 2 ^ 32) × (k ≤ 32)
-
-abbrev decreases-loop : tie.decreases-loop
-decreases-loop factor most square n₀ k₀ n k = k
+use Rattle.exact.proofs.root.greatest_root.Goals as goal
 
 -- the bit that is tried, as the machine has it
 abbrev bit : ℕ → ℕ
@@ -65,66 +57,45 @@ module _ (s n k : ℕ) (h : 0 < k) (le : k ≤ 32) (room : n + 2 ^ k ≤ 2 ^ 32)
   unfolding tried
   kept t = steps n (rw (← the-bit, lt-leb _ _ t))
 
-div-square : tie.Need-nonzero-div-square invariant-loop decreases-loop
-div-square c = search rules
+pub loop-k-init : goal.loop-k-init
+loop-k-init c = (refl, omega arith, omega arith)
 
-loop-holds : tie.Need-loop-init invariant-loop decreases-loop
-loop-holds c = (refl, omega arith, omega arith)
+pub overflow_sub-k : goal.overflow_sub-k
+overflow_sub-k c = omega arith
 
-sub-k : tie.Need-overflow-sub-k invariant-loop decreases-loop
-sub-k c = omega arith
+pub overflow_shl-more : goal.overflow_shl-more
+overflow_shl-more c = omega arith
 
-shl-more : tie.Need-overflow-shl-more invariant-loop decreases-loop
-shl-more c = omega arith
+pub overflow_add-more : goal.overflow_add-more
+overflow_add-more c = let l = c.loop-k in record { fits = omega (arith, more_lt 0 l.n l.k c.loop-k-test.true l.invariant.2 l.invariant.1) }
 
-add-more : tie.Need-overflow-add-more invariant-loop decreases-loop
-add-more c = let l = c.before.loop in record { fits = omega (arith, more_lt 0 l.n l.k c.loop-test.true l.invariant.2 l.invariant.1) }
+pub overflow_mul-more : goal.overflow_mul-more
+overflow_mul-more c = let l = c.loop-k in record { fits = square-lt 0 l.n l.k c.loop-k-test.true l.invariant.2 l.invariant.1 }
 
-mul-if1 : tie.Need-overflow-mul-if1 invariant-loop decreases-loop
-mul-if1 c = let l = c.before.loop in record { fits = square-lt 0 l.n l.k c.loop-test.true l.invariant.2 l.invariant.1 }
+pub loop-k-smaller-then-more-square : goal.loop-k-smaller-then-more-square
+loop-k-smaller-then-more-square c = omega arith
 
-loop-less : tie.Need-loop-smaller invariant-loop decreases-loop
-loop-less c = omega arith
-
-loop-again : tie.Need-loop-preserved invariant-loop decreases-loop
-loop-again c =
-    let l = c.before.before.loop in
-    let t = c.before.loop-test.true in (
-      took _ l.n l.k t l.invariant.2 l.invariant.1 c.if1.true ∙ l.invariant.0,
+pub loop-k-preserved-then-more-square : goal.loop-k-preserved-then-more-square
+loop-k-preserved-then-more-square c =
+    let l = c.loop-k in
+    let t = c.loop-k-test.true in (
+      took _ l.n l.k t l.invariant.2 l.invariant.1 c.if-more-square.true ∙ l.invariant.0,
       doubled 0 l.n l.k t l.invariant.2 l.invariant.1,
       omega arith,
     )
 
-loop-less-2 : tie.Need-loop-smaller-2 invariant-loop decreases-loop
-loop-less-2 c = omega arith
+pub loop-k-smaller : goal.loop-k-smaller
+loop-k-smaller c = omega arith
 
-loop-again-2 : tie.Need-loop-preserved-2 invariant-loop decreases-loop
-loop-again-2 c =
-    let l = c.before.before.loop in
-    let t = c.before.loop-test.true in (
-      kept _ l.n l.k t l.invariant.2 l.invariant.1 c.if1.false ∙ l.invariant.0,
+pub loop-k-preserved : goal.loop-k-preserved
+loop-k-preserved c =
+    let l = c.loop-k in
+    let t = c.loop-k-test.true in (
+      kept _ l.n l.k t l.invariant.2 l.invariant.1 c.if-more-square.false ∙ l.invariant.0,
       omega (arith, doubled 0 l.n l.k t l.invariant.2 l.invariant.1),
       omega arith,
     )
 
-returns : tie.Need-returns invariant-loop decreases-loop
+pub returns : goal.returns
 unfolding root_of greatest_below
-returns c = let l = c.before.loop in sym (none_left _ l.n l.k (omega arith)) ∙ l.invariant.0
-
-pub greatest-root-spec : {M : Type 1} → statement M
-greatest-root-spec =
-    tie.close
-    (tie.spec
-    invariant-loop
-    decreases-loop
-    div-square
-    loop-holds
-    sub-k
-    shl-more
-    add-more
-    mul-if1
-    loop-less
-    loop-again
-    loop-less-2
-    loop-again-2
-    returns)
+returns c = let l = c.loop-k in sym (none_left _ l.n l.k (omega arith)) ∙ l.invariant.0

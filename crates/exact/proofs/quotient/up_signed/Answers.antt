@@ -11,8 +11,7 @@ use mir.Facts.{to_z-of_z}
 use mir.ValLaws.{sfits_le}
 use Rattle.exact.specs.Quotient.{up_ℤ}
 use Rattle.exact.proofs.SignedLaws.{quot_fits, cut_up, cut_fits, uncut_up}
-use Rattle.exact.proofs.quotient.up_signed.Statement.{statement}
-use Rattle.exact.proofs.quotient.up_signed.Tie as tie
+use Rattle.exact.proofs.quotient.up_signed.Goals as goal
 
 -- what the machine computes: it reads each number back from its bits
 quotient : ℤ → ℤ → ℤ
@@ -50,33 +49,30 @@ whole : (den : ℤ) → pos 0 <ℤ den → Whole den
 whole (pos d) p = (d, ltb→lt 0 d p.lt, refl)
 whole (negsuc d) p = absurd p.lt
 
-div-whole : tie.Need-nonzero-div-whole
+pub nonzero_div-whole : goal.nonzero_div-whole
 unfolding quotient
-div-whole c = let w = whole c.args.den c.requires in divisible _ _ c.ranges.num c.ranges.den w.0 w.1 w.2
+nonzero_div-whole c = let w = whole c.args.den c.requires in divisible _ _ c.ranges.num c.ranges.den w.0 w.1 w.2
 
-rem-if1 : tie.Need-nonzero-rem-if1
-rem-if1 = div-whole
+pub nonzero_rem-num : goal.nonzero_rem-num
+nonzero_rem-num = nonzero_div-whole
 
-add-result : tie.Need-overflow-add-result
+pub overflow_add-result : goal.overflow_add-result
 unfolding quotient rest
-add-result c =
+overflow_add-result c =
     let s = c.before in
     let w = whole s.args.den s.requires in
-    more-fits _ _ s.ranges.num s.ranges.den w.0 w.1 w.2 c.if1.true
+    more-fits _ _ s.ranges.num s.ranges.den w.0 w.1 w.2 c.if-num-den-gt0.true
 
-returns : tie.Need-returns
+pub returns-then-num-den-gt0 : goal.returns-then-num-den-gt0
+unfolding quotient rest
+returns-then-num-den-gt0 c =
+    let s = c.before in
+    let w = whole s.args.den s.requires in
+    more-is _ _ s.ranges.num s.ranges.den w.0 w.1 w.2 c.if-num-den-gt0.true
+
+pub returns : goal.returns
 unfolding quotient rest
 returns c =
     let s = c.before in
     let w = whole s.args.den s.requires in
-    more-is _ _ s.ranges.num s.ranges.den w.0 w.1 w.2 c.if1.true
-
-returns-2 : tie.Need-returns-2
-unfolding quotient rest
-returns-2 c =
-    let s = c.before in
-    let w = whole s.args.den s.requires in
-    whole_is _ _ s.ranges.num s.ranges.den w.0 w.1 w.2 c.if1.false
-
-pub up-signed-spec : {M : Type 1} → statement M
-up-signed-spec = tie.close (tie.spec div-whole rem-if1 add-result returns returns-2)
+    whole_is _ _ s.ranges.num s.ranges.den w.0 w.1 w.2 c.if-num-den-gt0.false
