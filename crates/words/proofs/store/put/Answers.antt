@@ -1,12 +1,12 @@
 -- `words::store::put` meets its contract. The loop's invariant: what is left to store. Assumes nothing.
 use mathlib.Core.Path.{◌≡◌}
 use mathlib.Core.List.{◌∷◌}
-use Prim.Native.Nat.{◌+◌, ◌-◌, ◌≤◌}
+use Prim.Native.Nat.{◌+◌}
 use native.Mathlib.Numerals.{add-one}
 use native.Mathlib.Omega.{arith}
 use lib.ListN.{length, get_or, drop}
 use lib.Seq.{drop-cons, drop-length}
-use Rattle.words.proofs.StoreLaws.{Left, all_left, less_left, none_left, byte}
+use Rattle.words.proofs.StoreLaws.{all_left, less_left, none_left, byte}
 use Rattle.words.proofs.store.put.Goals as goal
 
 pub loop-i-init : goal.loop-i-init

@@ -1,12 +1,8 @@
 -- The invariants and the measures of the loops.
 use mathlib.Core.Path.{◌≡◌}
-use mathlib.Core.List.{◌∷◌}
 use Prim.Native.Nat.{◌+◌, ◌-◌, ◌≤◌}
-use native.Mathlib.Numerals.{add-one}
-use native.Mathlib.Omega.{arith}
-use lib.ListN.{length, get_or, drop}
-use lib.Seq.{drop-cons, drop-length}
-use Rattle.words.proofs.StoreLaws.{Left, all_left, less_left, none_left, byte}
+use lib.ListN.{length, drop}
+use Rattle.words.proofs.StoreLaws.{Left}
 use Rattle.words.proofs.store.put.Given as goal
 
 abbrev pub invariant-loop-i : goal.invariant-loop-i

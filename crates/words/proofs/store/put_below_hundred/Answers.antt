@@ -2,7 +2,6 @@
 use mathlib.Core.Path.{ap}
 use native.Mathlib.Omega.{arith}
 use lib.ListN.{length}
-use borrow.Author.Rules.{rules}
 use Rattle.words.proofs.DecimalLaws.{decimal_below, decimal_two}
 use Rattle.words.proofs.StoreLaws.{byte}
 use Rattle.words.proofs.store.put_below_hundred.Goals as goal

@@ -1,7 +1,6 @@
 -- `words::store::put_figure` meets its contract. Assumes nothing.
 use native.Mathlib.Omega.{arith}
 use lib.ListN.{length-set}
-use borrow.Author.Rules.{rules}
 use Rattle.words.proofs.DecimalLaws.{decimal_most}
 use Rattle.words.proofs.StoreLaws.{then, byte}
 use Rattle.words.proofs.store.put_figure.Goals as goal

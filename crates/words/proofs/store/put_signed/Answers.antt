@@ -2,7 +2,6 @@
 use mathlib.Core.Path.{ap, sym, ◌∙◌}
 use mathlib.Core.List.{◌∷◌}
 use native.Mathlib.Omega.{arith}
-use borrow.Author.Rules.{rules}
 use Rattle.words.specs.Decimal.{decimal}
 use Rattle.words.proofs.DecimalLaws.{decimal_most, signed_below, signed_above}
 use Rattle.words.proofs.StoreLaws.{then}

@@ -1,6 +1,5 @@
 -- `words::store::put_small` meets its contract. Assumes nothing.
 use native.Mathlib.Omega.{arith}
-use borrow.Author.Rules.{rules}
 use Rattle.words.proofs.DecimalLaws.{decimal_hundreds, hundreds_long}
 use Rattle.words.proofs.StoreLaws.{then}
 use Rattle.words.proofs.store.put_small.Goals as goal

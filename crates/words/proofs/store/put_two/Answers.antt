@@ -1,7 +1,6 @@
 -- `words::store::put_two` meets its contract. Assumes nothing.
 use native.Mathlib.Omega.{arith}
 use lib.ListN.{length-set}
-use borrow.Author.Rules.{rules}
 use Rattle.words.proofs.StoreLaws.{two_bytes}
 use Rattle.words.proofs.store.put_two.Goals as goal
 
