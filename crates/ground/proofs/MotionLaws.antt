@@ -154,5 +154,10 @@ module _ (class Ss S1 : ℕ) where
 
   -- the further clauses of what answers as the definition does
   pub motion_clauses : {r : GroundMotion.GroundMotion} → r ≡ ground_motion class Ss S1
-      → (r ≡ ground_motion class Ss S1) × ((motion_code r ≡ ground_motion_code class Ss S1) × ReplyJustified class Ss S1 r)
-  motion_clauses e = (e, (ap motion_code e ∙ motion_code_lem, subst (ReplyJustified class Ss S1) (sym e) reply_justified))
+      → record { value : r ≡ ground_motion class Ss S1; code : motion_code r ≡ ground_motion_code class Ss S1; reply_justified : ReplyJustified class Ss S1 r }
+  motion_clauses e =
+      record {
+        value = e;
+        code = ap motion_code e ∙ motion_code_lem;
+        reply_justified = subst (ReplyJustified class Ss S1) (sym e) reply_justified;
+      }

@@ -6,7 +6,7 @@ use mathlib.Core.List.{List, [], ◌∷◌, ◌++◌, append_assoc}
 use Prim.Native.Nat.{ℕ, zero, suc, ◌+◌, ◌*◌, ◌≤◌, ◌<◌}
 use native.Mathlib.Omega.{arith}
 use lib.ListN.{length, get_or, take, drop, take-append-drop, length-drop}
-use lib.Seq.{get_or-drop, drop-drop, drop_at, take-add, take_all, drop-cons}
+use lib.Seq.{drop-drop, take-add, take_all, drop-cons}
 use Rattle.fields.proofs.RangeLaws.{within_most}
 use Rattle.fields.specs.Order.{Figure, values}
 use Rattle.entries.specs.Sheet.{tank_figures, site_figures, anchor_figures, course_figures}
@@ -19,7 +19,7 @@ use Rattle.layout.specs.Numbers.{AllBytes, two, fours, two_in}
 use Rattle.layout.specs.Layout.{version1, tail_length, body_length, prefix_of, tail_head, courses_figures, tail_of, layout}
 use Rattle.layout.specs.Header.{tank_in, site_in, anchors_in, course_in, courses_in, tail_in, Header}
 use Rattle.layout.proofs.NumberLaws.{fours_append, four_back, two_back, back_two, bytes_drop, figures_back}
-use Rattle.layout.proofs.LayoutLaws.{prefix_length, layout_length}
+use Rattle.layout.proofs.LayoutLaws.{layout_length}
 
 -- ---- read, then laid out
 

@@ -16,7 +16,7 @@ use Rattle.fields.specs.Order.{◌when◌, first_of}
 use Rattle.fields.specs.declared.answer.Answer.TheVariants.{Accepted, Refused}
 use Rattle.fields.proofs.OrderLaws.{first_cons}
 use Rattle.layout.specs.Numbers.{two_in}
-use Rattle.layout.specs.Layout.{Version, version1, tail_length, body_length, whole_length}
+use Rattle.layout.specs.Layout.{version1, tail_length, body_length}
 use Rattle.layout.specs.Header.{course_in, courses_in, tail_in, count_of, is_length, read_order, Header}
 use Rattle.lists.proofs.BoolLaws.{T_true, three_yes, yes_three}
 

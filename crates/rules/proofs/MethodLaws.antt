@@ -79,5 +79,9 @@ choice_code_lem n = go (is_method n)
 
 -- the clauses of `method_of`
 pub choice_clauses : (n : ℕ) {choice : MethodChoice} → choice ≡ chosen_method n
-    → (choice ≡ chosen_method n) × ((choice_code choice ≡ method_code n) × ChosenExactly n choice)
-choice_clauses n e = (e, (ap choice_code e ∙ choice_code_lem n, subst (ChosenExactly n) (sym e) (chosen_exactly n)))
+    → record { value : choice ≡ chosen_method n; code : choice_code choice ≡ method_code n; chosen_exactly : ChosenExactly n choice }
+choice_clauses n e = record {
+  value = e;
+  code = ap choice_code e ∙ choice_code_lem n;
+  chosen_exactly = subst (ChosenExactly n) (sym e) (chosen_exactly n);
+}

@@ -11,7 +11,6 @@ use Rattle.fields.specs.declared.refusal.Refusal.{Refusal}
 use Rattle.fields.specs.declared.refusal.Refusal.TheVariants.{Unreachable, BufferTooShort}
 use Rattle.fields.specs.Order.{first_of}
 use Rattle.fields.specs.declared.answer.Answer.{Answer}
-use Rattle.fields.specs.declared.answer.Answer.TheVariants.{Refused}
 use Rattle.entries.specs.declared.sheet.Sheet.{Sheet}
 use Rattle.layout.specs.Numbers.{fours}
 use Rattle.layout.specs.Layout.{version1, whole_length, prefix_of, tail_head, courses_figures, layout}
