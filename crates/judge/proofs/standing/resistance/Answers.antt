@@ -1,0 +1,26 @@
+-- `judge::standing::resistance` meets its contract. Assumes nothing.
+use native.Mathlib.Omega.{arith}
+use Rattle.entries.proofs.FieldLaws.{tank_in_lem, site_in_lem}
+use Rattle.reports.specs.Figures.{resistance_on}
+use Rattle.reports.proofs.FigureLaws.{net_most, shell_in, bottom_in}
+use Rattle.judge.proofs.standing.resistance.Goals as goal
+
+pub shell_weight-shell-requires : goal.shell_weight-shell-requires
+shell_weight-shell-requires c = let t = tank_in_lem c.args.tank c.requires.tank_clear in
+    record { weight_in = t.weight; vertical_in = (site_in_lem c.args.site c.requires.site_clear).vertical; diameter_in = t.diameter }
+
+pub overflow_sub-net : goal.overflow_sub-net
+overflow_sub-net c = let s = c in
+    omega (arith, (tank_in_lem s.args.tank s.requires.tank_clear).net)
+
+pub bottom_weight-bottom-requires : goal.bottom_weight-bottom-requires
+bottom_weight-bottom-requires c = let s = c in
+    let t = tank_in_lem s.args.tank s.requires.tank_clear in
+    record { plate_le_most_plate = net_most s.args.tank s.requires.tank_clear; yield_stress_le_most_yield = t.fy.1; level_in = t.level }
+
+pub resistance-requires : goal.resistance-requires
+resistance-requires c = let s = c in record { diameter_in = (tank_in_lem s.args.tank s.requires.tank_clear).diameter; shell_le_most_shell = rw c.shell_weight-shell.ensures (shell_in s.args.tank s.requires.tank_clear s.args.site s.requires.site_clear); bottom_le_most_bottom = rw c.bottom_weight-bottom.ensures (bottom_in s.args.tank s.requires.tank_clear s.args.site s.requires.site_clear) }
+
+pub returns : goal.returns
+unfolding resistance_on
+returns c = rw (← c.shell_weight-shell.ensures, ← c.bottom_weight-bottom.ensures) c.resistance.ensures
