@@ -197,7 +197,7 @@ module _ (n : ℕ) (s : Sheet) where
       let g = reply_refused replies (stresses_of (entries_of s)) (first_of (compression_order n s)) Unreachable in
       (λ e. f.0 (g.0 e), λ k. g.1 (f.1 k))
 
-  -- 43 exactly where judging gives a report, and the tank is self_anchored and lifts
+  -- 43 exactly where judging gives a report, and the tank is self-anchored and lifts
   pub forty_three_exactly : (shell_compression n s ≡ Compression.TheVariants.Refused ShellUplift)
       ↔ (((judged n s).answer ≡ Accepted) × ((shell_uplift (entries_of s)).applies ≡ true))
   unfolding shell_compression

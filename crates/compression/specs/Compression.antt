@@ -42,7 +42,7 @@ lifts None = false
 lifts Lift = true
 lifts Over = true
 
--- 43: "a self_anchored tank whose lift isn't "none""
+-- 43: "a self-anchored tank whose lift isn't "none""
 abbrev pub shell_uplift : Entries → Condition
 shell_uplift e =
     ShellUplift when (self_anchored e.anchors && lifts (uplift_of e.site.moment (resistance_on e.tank e.site)))

@@ -59,7 +59,7 @@ fn unless_uplifted(standing: Standing, e: Entries) -> Compression
     Compression::Given(bottom_stresses(e))
 }
 
-// Whether the tank is self_anchored and its edge lifts.
+// Whether the tank is self-anchored and its edge lifts.
 fn is_uplifted(standing: Standing) -> bool
     ensures { result ≡ uplifted standing }
 {

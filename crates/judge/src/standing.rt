@@ -1,4 +1,4 @@
-// The tank's way of standing: self_anchored, or with the anchors given.
+// The tank's way of standing: self-anchored, or with the anchors given.
 ghost use Rattle.std.specs.Prelude.{◌≡◌, ◌≤◌, ◌<◌, T};
 ghost use Rattle.rules.specs.Bounds.{most_moment};
 ghost use Rattle.fields.specs.Order.{clear};

@@ -9,6 +9,9 @@ ghost use Rattle.layout.specs.Header.{tank_in, site_in, anchors_in, course_in, c
 use entries::{Anchors, Course, MOST_COURSES, Site, Tank};
 use fields::{Answer, Refusal};
 
+// The version byte.
+const VERSION: u8 = 1;
+
 // What the bytes are refused for before any step: 11 for under two bytes, 13, 11, 12, 14, 15.
 pub fn header_flaw(bytes: &[u8]) -> Answer
     ensures value { result ≡ first_of (read_order version1 bytes.now) }
@@ -27,7 +30,7 @@ pub fn header_flaw(bytes: &[u8]) -> Answer
     if 2 + length < bytes.len() {
         return Answer::Refused(Refusal::TooManyBytes);
     }
-    if bytes[2] != 1 {
+    if bytes[2] != VERSION {
         return Answer::Refused(Refusal::BadVersion);
     }
     if bytes[59] as usize != count_of(length) {

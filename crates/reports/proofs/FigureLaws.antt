@@ -93,7 +93,7 @@ module _ (t : Tank) (h : T (clear (tank_flaws t))) where
         tank.level
         tank.diameter
 
-  -- the resistance of a self_anchored tank, against a moment f
+  -- the resistance of a self-anchored tank, against a moment f
   module _ (x : Site) (f : Ratio) where
     wide : 0 < t.diameter
     wide = omega (arith, tank.diameter.0)

@@ -33,7 +33,7 @@ moment_on tank site Hs = moment_of (pressure_on site) tank.diameter Hs
 abbrev pub moment_exact_on : Tank → Site → ℕ → Ratio
 moment_exact_on tank site Hs = moment_exact site.exposure site.importance site.speed tank.diameter Hs
 
--- self_anchored: T, and whether the unrounded resistance is at least a fraction; tb is the bottom plate less its allowance
+-- self-anchored: T, and whether the unrounded resistance is at least a fraction; tb is the bottom plate less its allowance
 abbrev pub bottom_plate : Tank → ℕ
 bottom_plate tank = tank.plate - tank.allowance
 

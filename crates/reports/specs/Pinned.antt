@@ -208,7 +208,7 @@ abbrev pub plate_edge : Method → Edge
 plate_edge D100 = edge (anchored_with 254) (anchored_with 252)
 plate_edge Api650 = edge (source002_with 250 200) (source002_with 248 200)
 
--- and, the same sheets by either method: floor; self_anchored: wind, and earthquake where the cap limits the resistance and where the root
+-- and, the same sheets by either method: floor; self-anchored: wind, and earthquake where the cap limits the resistance and where the root
 -- does; anchored: wind, earthquake, and spacing
 abbrev pub edges : Method → List Edge
 edges method =

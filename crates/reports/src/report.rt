@@ -17,7 +17,7 @@ pub struct CourseLine {
     pub verdict: Verdict,
 }
 
-// A self_anchored tank; `resistance` is T in foot-pounds.
+// A self-anchored tank; `resistance` is T in foot-pounds.
 #[derive(Clone, Copy)]
 pub struct SelfChecks {
     pub wind: Verdict,
@@ -35,7 +35,7 @@ pub struct AnchorChecks {
     pub strength: Verdict,
 }
 
-// Whether the tank is self_anchored or anchored (document 01's way of standing), with nothing of the other.
+// Whether the tank is self-anchored or anchored (document 01's way of standing), with nothing of the other.
 #[derive(Clone, Copy)]
 pub enum Standing {
     SelfAnchored(SelfChecks),

@@ -1,4 +1,4 @@
--- When each check of a tank's way of standing holds. A self_anchored tank stands in an earthquake unless its uplift is over.
+-- When each check of a tank's way of standing holds. A self-anchored tank stands in an earthquake unless its uplift is over.
 -- Assumes nothing.
 use mathlib.Core.Path.{◌≡◌, refl}
 use mathlib.Core.Bool.{Bool, true, false, cond}

@@ -1,4 +1,4 @@
--- Anchors: document 01, "The rules", Anchored, and the house rule for wind on a self_anchored tank; document 02, S-5. Pulls in pounds, up
+-- Anchors: document 01, "The rules", Anchored, and the house rule for wind on a self-anchored tank; document 02, S-5. Pulls in pounds, up
 -- positive.
 use Rattle.std.specs.Prelude.{cond, ℕ, ◌+◌, ◌-◌, ◌*◌, ◌≤◌, ℤ, pos, ◌-ℤ◌}
 use Rattle.std.specs.Int.Signed.{lt_z}
@@ -45,6 +45,6 @@ strength_verdict pull A = verdict_of (1000 * pull) (19950 * A)
 pub record Strong (f w : Ratio) (B N A : ℕ) (m : Ratio) : Type 0 where
   pub strong : 1000 * (4800 * f.num * m.den + m.num * (N * B) * f.den) * w.den ≤ (19950 * A * (N * B) * w.den + 1000 * (w.num * B)) * (f.den * m.den)
 
--- Wind on a self_anchored tank (house): 3,600 × M at most W × D.
+-- Wind on a self-anchored tank (house): 3,600 × M at most W × D.
 unfoldable pub wind_verdict : ℕ → ℕ → ℕ → Verdict
 wind_verdict M W D = verdict_of (3600 * M) (W * D)

@@ -1,4 +1,4 @@
--- Earthquake overturning of a self_anchored tank: document 01, "The rules" (AWWA D100, Section 13). Weights in hundredths of a pound per
+-- Earthquake overturning of a self-anchored tank: document 01, "The rules" (AWWA D100, Section 13). Weights in hundredths of a pound per
 -- foot of shell, resistance in foot-pounds.
 use Rattle.std.specs.Prelude.{Bool, true, false, cond, List, ◌⊎◌, ℕ, ◌+◌, ◌-◌, ◌*◌, min, ◌≤◌, leb}
 use Rattle.exact.specs.Quotient.{Ratio, down_of}
@@ -61,7 +61,7 @@ uplift_holds None = true
 uplift_holds Lift = true
 uplift_holds Over = false
 
--- The self_anchored earthquake check: 1,000 × Ms at most 1,540 × T.
+-- The self-anchored earthquake check: 1,000 × Ms at most 1,540 × T.
 unfoldable pub quake_verdict : ℕ → ℕ → Verdict
 quake_verdict Ms T = verdict_of (1000 * Ms) (1540 * T)
 

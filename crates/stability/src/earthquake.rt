@@ -1,4 +1,4 @@
-// Earthquake overturning of a self_anchored tank.
+// Earthquake overturning of a self-anchored tank.
 ghost use Rattle.std.specs.Prelude.{◌≡◌, ◌*◌, ◌≤◌, ◌<◌};
 ghost use Rattle.fields.specs.Range.{In};
 ghost use Rattle.stability.specs.Bounds.{most_plate, most_yield, most_shell, most_bottom, most_resistance};

@@ -38,12 +38,12 @@ bounds-bytes-2 c = let d = c.before in
     let k = length_least l.length_in-length.result (sym d.is_length.ensures ∙ d.if-not-is_length.false) in
     omega arith
 
-pub returns-then-bytes-ne1 : goal.returns-then-bytes-ne1
-returns-then-bytes-ne1 c = let f = c.before in
+pub returns-then-bytes-ne-VERSION : goal.returns-then-bytes-ne-VERSION
+returns-then-bytes-ne-VERSION c = let f = c.before in
     let d = f.before in
     let l = d.before in
     let b = l.args.bytes.now in
-    let r = coded (read_order version1 b) (no_version b l.length_in-length.result (sym l.length_in-length.ensures.0) l.if-bytes-lt2.false (sym d.is_length.ensures ∙ d.if-not-is_length.false) f.if-bytes-length.false f.if-length-bytes.false c.if-bytes-ne1.true) in
+    let r = coded (read_order version1 b) (no_version b l.length_in-length.result (sym l.length_in-length.ensures.0) l.if-bytes-lt2.false (sym d.is_length.ensures ∙ d.if-not-is_length.false) f.if-bytes-length.false f.if-length-bytes.false c.if-bytes-ne-VERSION.true) in
     record { value = r.0; code = r.1 }
 
 pub bounds-bytes-59 : goal.bounds-bytes-59
@@ -62,7 +62,7 @@ returns-then-bytes-count_of c = let g = c.before in
     let d = f.before in
     let l = d.before in
     let b = l.args.bytes.now in
-    let r = coded (read_order version1 b) (no_count b l.length_in-length.result (sym l.length_in-length.ensures.0) l.if-bytes-lt2.false (sym d.is_length.ensures ∙ d.if-not-is_length.false) f.if-bytes-length.false f.if-length-bytes.false g.if-bytes-ne1.false (λ e. c.if-bytes-count_of.true (e ∙ sym c.count_of.ensures))) in
+    let r = coded (read_order version1 b) (no_count b l.length_in-length.result (sym l.length_in-length.ensures.0) l.if-bytes-lt2.false (sym d.is_length.ensures ∙ d.if-not-is_length.false) f.if-bytes-length.false f.if-length-bytes.false g.if-bytes-ne-VERSION.false (λ e. c.if-bytes-count_of.true (e ∙ sym c.count_of.ensures))) in
     record { value = r.0; code = r.1 }
 
 pub returns : goal.returns
@@ -71,5 +71,5 @@ returns c = let g = c.before in
     let d = f.before in
     let l = d.before in
     let b = l.args.bytes.now in
-    let r = coded (read_order version1 b) (no_flaw b l.length_in-length.result (sym l.length_in-length.ensures.0) l.if-bytes-lt2.false (sym d.is_length.ensures ∙ d.if-not-is_length.false) f.if-bytes-length.false f.if-length-bytes.false g.if-bytes-ne1.false (c.if-bytes-count_of.false ∙ c.count_of.ensures)) in
+    let r = coded (read_order version1 b) (no_flaw b l.length_in-length.result (sym l.length_in-length.ensures.0) l.if-bytes-lt2.false (sym d.is_length.ensures ∙ d.if-not-is_length.false) f.if-bytes-length.false f.if-length-bytes.false g.if-bytes-ne-VERSION.false (c.if-bytes-count_of.false ∙ c.count_of.ensures)) in
     record { value = r.0; code = r.1 }
