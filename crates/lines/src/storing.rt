@@ -168,6 +168,9 @@ fn put_report(out: &mut [u8], r: Report) -> usize
     put_tank(out, next, word)
 }
 
+// The refusal that prints its field: a field outside its range.
+const OUT_OF_RANGE: u32 = 16;
+
 // The number, and for 16 the field, each with a blank in front, and the line end.
 fn put_code(out: &mut [u8], at: usize, p: Code) -> usize
     requires { at + 43 ≤ length out.old }
@@ -175,7 +178,7 @@ fn put_code(out: &mut [u8], at: usize, p: Code) -> usize
     ensures stored { Stored out.old at (more (map decimal (code_figures p))) out.new result }
 {
     let next = put_figure(out, at, p.number as u64);
-    if p.number == 16 {
+    if p.number == OUT_OF_RANGE {
         let next = put_figure(out, next, p.field as u64);
         return put(out, next, b"\n");
     }
