@@ -3,19 +3,20 @@
 
 use entries::{Anchors, Course, Sheet, Site, Tank};
 use judge::judging;
-use libc::STDOUT_FILENO;
 use sheet::steps;
+use std::io;
+use std::io::Write;
 use text::printing;
 use text::printing::MOST_TEXT;
 
 // The method for hoop need: 1 for D100, 2 for API 650.
 const METHOD: u32 = 1;
 
-fn main() {
+fn main(rt: HostRuntime) -> io::Result<()> {
     let judgement = judging::judge(METHOD, example());
     let mut out = [0u8; MOST_TEXT];
     let printed = printing::print(judgement, &mut out);
-    io::write_all(STDOUT_FILENO, printed.text(&out));
+    io::writer(&rt).write_all(printed.text(&out))
 }
 
 // No step is refused here. With other figures look at each reply's answer: after a refused step the sheet is as

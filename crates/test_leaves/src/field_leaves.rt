@@ -2,15 +2,17 @@
 use crate::clamp::field;
 use crate::print;
 use fields::Refusal;
+use std::io;
+use std::io::Write;
 
-pub(crate) fn answer(leaf: u64, a: u64, b: u64) {
+pub(crate) fn answer<W: Write>(out: &mut W, leaf: u64, a: u64, b: u64) -> io::Result<()> {
     let x = field(0, a, 4294967295);
     let y = field(0, b, 4294967295);
     match leaf {
-        10 => print::truth(fields::in_range(x, y)),
-        11 => print::number(fields::stress_area(x) as u64),
-        12 => print::refusal(refusal(a, y).code()),
-        _ => print::out(),
+        10 => print::truth(out, fields::in_range(x, y)),
+        11 => print::number(out, fields::stress_area(x) as u64),
+        12 => print::refusal(out, refusal(a, y).code()),
+        _ => print::out(out),
     }
 }
 

@@ -13,10 +13,11 @@ mod question_leaves;
 mod rule_leaves;
 mod weight_leaves;
 
-ghost use Rattle.std.specs.Prelude.{◌≤◌, ◌<◌, length};
+ghost use Rattle.std.specs.Prelude.{◌≡◌, ◌≤◌, ◌<◌, IfOk, length};
 ghost use Rattle.test_leaves.specs.Scan.{Scanned};
 
-use libc::STDIN_FILENO;
+use std::io;
+use std::io::{BufWriter, Read, Write};
 
 #[derive(Clone, Copy)]
 struct Scan {
@@ -24,58 +25,80 @@ struct Scan {
     next: usize,
 }
 
-fn main() {
-    let mut space = [0u8; 524288];
-    let n = io::read_full(STDIN_FILENO, &mut space);
-    run(&space[..n]);
+fn main(rt: HostRuntime) -> io::Result<()> {
+    let mut space: [u8; 524288] = buffer();
+    let n = read_full(&mut rt.stdin(), &mut space);
+    let mut out = BufWriter::new(rt.alloc(), io::writer(&rt))?;
+    run(&mut out, &space[..n])?;
+    out.flush()
 }
 
-fn run(text: &[u8]) {
+// Zeros. For any N, and the `ensures` gives only the length, so that no proof counts up to a large one.
+fn buffer<const N: usize>() -> [u8; N]
+    ensures { length result ≡ N }
+{
+    [0; N]
+}
+
+// Reads until the buffer is full, the input ends or a read fails, and gives the number of bytes that came.
+fn read_full<R: Read>(input: &mut R, buf: &mut [u8]) -> usize
+    ensures { result ≤ length buf.new }
+{
+    let mut done: usize = 0;
+    while done < buf.len() {
+        let Ok(n) = input.read(&mut buf[done..]) else {
+            return done;
+        };
+        if n == 0 {
+            return done;
+        }
+        done += n;
+    }
+    done
+}
+
+fn run<W: Write>(out: &mut W, text: &[u8]) -> io::Result<()> {
     let mut at: usize = 0;
     while at < text.len() {
-        at = line(text, at);
+        at = line(out, text, at)?;
     }
+    Ok(())
 }
 
-fn line(text: &[u8], from: usize) -> usize
+// Answers the line that begins at this place, and gives the place after it.
+fn line<W: Write>(out: &mut W, text: &[u8], from: usize) -> io::Result<usize>
     requires { from < length text.now }
-    ensures { (from < result) × (result ≤ length text.now) }
+    ensures { IfOk result (λ next. (from < next) × (next ≤ length text.now)) }
 {
     let leaf = number(text, from);
     let a = number(text, leaf.next);
     let b = number(text, a.next);
     let c = number(text, b.next);
     let d = number(text, c.next);
-    answer(leaf.value, a.value, b.value, c.value, d.value);
-    d.next
+    answer(out, leaf.value, a.value, b.value, c.value, d.value)?;
+    Ok(d.next)
 }
 
-fn answer(leaf: u64, a: u64, b: u64, c: u64, d: u64) {
+fn answer<W: Write>(out: &mut W, leaf: u64, a: u64, b: u64, c: u64, d: u64) -> io::Result<()> {
     if leaf < 10 {
-        exact_leaves::answer(leaf, a, b, c, d);
-        return;
+        return exact_leaves::answer(out, leaf, a, b, c, d);
     }
     if leaf < 20 {
-        field_leaves::answer(leaf, a, b);
-        return;
+        return field_leaves::answer(out, leaf, a, b);
     }
     if leaf < 40 {
-        rule_leaves::answer(leaf, a, b, c, d);
-        return;
+        return rule_leaves::answer(out, leaf, a, b, c, d);
     }
     if leaf < 50 {
-        question_leaves::answer(leaf, a, b, c);
-        return;
+        return question_leaves::answer(out, leaf, a, b, c);
     }
     if leaf < 51 {
-        method_leaves::answer(leaf, a, b);
-        return;
+        return method_leaves::answer(out, leaf, a, b);
     }
     if leaf < 53 {
-        weight_leaves::answer(leaf, a, b, c, d);
-        return;
+        return weight_leaves::answer(out, leaf, a, b, c, d);
     }
-    buckling_leaves::answer(leaf, a, b, c);
+    buckling_leaves::answer(out, leaf, a, b, c)
 }
 
 // The digits from `from` on, and the byte that ends them.

@@ -2,85 +2,69 @@
 use exact::Wide;
 use fields::Code;
 use ground::DesignValues;
-use libc::STDOUT_FILENO;
 use rules::verdict::Verdict;
 use stability::earthquake::Uplift;
+use std::io;
+use std::io::Write;
 
-pub(crate) fn out() {
-    io::write_all(STDOUT_FILENO, b"out\n");
+pub(crate) fn out<W: Write>(out: &mut W) -> io::Result<()> {
+    writeln!(out, "out")
 }
 
-pub(crate) fn number(n: u64) {
-    io::print_decimal(STDOUT_FILENO, n);
-    io::write_all(STDOUT_FILENO, b"\n");
+pub(crate) fn number<W: Write>(out: &mut W, n: u64) -> io::Result<()> {
+    writeln!(out, "{n}")
 }
 
 // A number past 64 bits by its two parts.
-pub(crate) fn wide(w: Wide) {
-    io::print_decimal(STDOUT_FILENO, w.high);
-    io::write_all(STDOUT_FILENO, b" ");
-    number(w.low as u64);
+pub(crate) fn wide<W: Write>(out: &mut W, w: Wide) -> io::Result<()> {
+    writeln!(out, "{} {}", w.high, w.low)
 }
 
-pub(crate) fn signed(z: i64) {
+pub(crate) fn signed<W: Write>(out: &mut W, z: i64) -> io::Result<()> {
     if z < 0 {
-        io::write_all(STDOUT_FILENO, b"-");
+        write!(out, "-")?;
     }
-    number(exact::magnitude(z));
+    number(out, exact::magnitude(z))
 }
 
-pub(crate) fn truth(b: bool) {
+pub(crate) fn truth<W: Write>(out: &mut W, b: bool) -> io::Result<()> {
     if b {
-        io::write_all(STDOUT_FILENO, b"yes\n");
+        writeln!(out, "yes")
     } else {
-        io::write_all(STDOUT_FILENO, b"no\n");
+        writeln!(out, "no")
     }
 }
 
 // A float by its bits, in hexadecimal.
-pub(crate) fn float(x: f64) {
-    io::print_hex(STDOUT_FILENO, exact::bits(x), 16);
-    io::write_all(STDOUT_FILENO, b"\n");
+pub(crate) fn float<W: Write>(out: &mut W, x: f64) -> io::Result<()> {
+    writeln!(out, "{:016x}", exact::bits(x))
 }
 
-pub(crate) fn verdict(v: Verdict) {
+pub(crate) fn verdict<W: Write>(out: &mut W, v: Verdict) -> io::Result<()> {
     match v {
         Verdict::Holds(x) => {
-            io::write_all(STDOUT_FILENO, b"holds ");
-            float(x);
+            write!(out, "holds ")?;
+            float(out, x)
         }
         Verdict::Short(x) => {
-            io::write_all(STDOUT_FILENO, b"short ");
-            float(x);
+            write!(out, "short ")?;
+            float(out, x)
         }
     }
 }
 
-pub(crate) fn uplift(u: Uplift) {
+pub(crate) fn uplift<W: Write>(out: &mut W, u: Uplift) -> io::Result<()> {
     match u {
-        Uplift::None => {
-            io::write_all(STDOUT_FILENO, b"none\n");
-        }
-        Uplift::Lift => {
-            io::write_all(STDOUT_FILENO, b"lift\n");
-        }
-        Uplift::Over => {
-            io::write_all(STDOUT_FILENO, b"over\n");
-        }
+        Uplift::None => writeln!(out, "none"),
+        Uplift::Lift => writeln!(out, "lift"),
+        Uplift::Over => writeln!(out, "over"),
     }
 }
 
-pub(crate) fn refusal(code: Code) {
-    io::write_all(STDOUT_FILENO, b"refused ");
-    io::print_decimal(STDOUT_FILENO, code.number as u64);
-    io::write_all(STDOUT_FILENO, b" ");
-    number(code.field as u64);
+pub(crate) fn refusal<W: Write>(out: &mut W, code: Code) -> io::Result<()> {
+    writeln!(out, "refused {} {}", code.number, code.field)
 }
 
-pub(crate) fn design_values(v: DesignValues) {
-    io::print_decimal(STDOUT_FILENO, v.sds as u64);
-    io::write_all(STDOUT_FILENO, b" ");
-    io::print_decimal(STDOUT_FILENO, v.sd1 as u64);
-    io::write_all(STDOUT_FILENO, b" ");
-    number(v.vertical as u64);
+pub(crate) fn design_values<W: Write>(out: &mut W, v: DesignValues) -> io::Result<()> {
+    writeln!(out, "{} {} {}", v.sds, v.sd1, v.vertical)
 }

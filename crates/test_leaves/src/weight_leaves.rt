@@ -4,29 +4,47 @@ use crate::clamp::{field, figure};
 use crate::print;
 use stability::anchors;
 use stability::anchors::DeadWeight;
+use std::io;
+use std::io::Write;
 
-pub(crate) fn answer(leaf: u64, a: u64, b: u64, c: u64, d: u64) {
+pub(crate) fn answer<W: Write>(
+    out: &mut W,
+    leaf: u64,
+    a: u64,
+    b: u64,
+    c: u64,
+    d: u64,
+) -> io::Result<()> {
     match leaf {
-        51 => reduced(a, b),
-        52 => pull(a, b, c, d),
-        _ => print::out(),
+        51 => reduced(out, a, b),
+        52 => pull(out, a, b, c, d),
+        _ => print::out(out),
     }
 }
 
-fn reduced(weight: u64, vertical: u64) {
+fn reduced<W: Write>(out: &mut W, weight: u64, vertical: u64) -> io::Result<()> {
     let left = DeadWeight::reduced(field(1, weight, 10000000), field(0, vertical, 500));
-    print::number(left.num);
+    print::number(out, left.num)
 }
 
-fn pull(moment: u64, weight: u64, circle: u64, count: u64) {
+fn pull<W: Write>(
+    out: &mut W,
+    moment: u64,
+    weight: u64,
+    circle: u64,
+    count: u64,
+) -> io::Result<()> {
     let left = DeadWeight {
         num: figure(0, weight, 100000000000),
         den: 10000,
     };
-    print::signed(anchors::pull(
-        figure(0, moment, 1000000000),
-        left,
-        field(1, circle, 300000),
-        field(6, count, 200),
-    ));
+    print::signed(
+        out,
+        anchors::pull(
+            figure(0, moment, 1000000000),
+            left,
+            field(1, circle, 300000),
+            field(6, count, 200),
+        ),
+    )
 }

@@ -3,43 +3,82 @@
 // the buffer.
 #![tactic(auto)]
 
-ghost use Rattle.std.specs.Prelude.{◌+◌, ◌≤◌, ◌<◌, length};
+ghost use Rattle.std.specs.Prelude.{◌≡◌, ◌+◌, ◌≤◌, ◌<◌, IfOk, length};
 
-use libc::{STDIN_FILENO, STDOUT_FILENO};
+use std::io;
+use std::io::{Read, Write};
 use text::marker;
 use text::printing::MOST_TEXT;
 
 // A sheet with its length has at most 65,537 bytes, so a full buffer has a whole one.
 const ROOM: usize = 131072;
 
-fn main() {
-    let mut space = [0u8; ROOM];
-    let mut texts = io::large_buffer();
-    mark_all(&mut space, &mut texts);
+// Of the texts that wait to be written.
+const TEXTS_ROOM: usize = 65536;
+
+fn main(rt: HostRuntime) -> io::Result<()> {
+    let mut space: [u8; ROOM] = buffer();
+    let mut texts: [u8; TEXTS_ROOM] = buffer();
+    mark_all(
+        &mut rt.stdin(),
+        &mut io::writer(&rt),
+        &mut space,
+        &mut texts,
+    )
+}
+
+// Zeros. For any N, and the `ensures` gives only the length, so that no proof counts up to a large one.
+fn buffer<const N: usize>() -> [u8; N]
+    ensures { length result ≡ N }
+{
+    [0; N]
 }
 
 // A proved loop has to end: this one counts its turns down, from a number that no input uses up.
-fn mark_all(input: &mut [u8], out: &mut [u8]) {
+fn mark_all<R: Read, W: Write>(
+    from: &mut R,
+    to: &mut W,
+    input: &mut [u8],
+    out: &mut [u8],
+) -> io::Result<()> {
     let mut held: usize = 0;
     let mut turns = u64::MAX;
     while turns > 0 {
-        let end = fill(input, held);
+        let end = fill(from, input, held);
         let ended = end < input.len();
-        let next = mark_sheets(&input[..end], ended, out);
+        let next = mark_sheets(to, &input[..end], ended, out)?;
         if ended {
-            return;
+            return Ok(());
         }
         held = keep(input, next);
         turns -= 1;
     }
+    Ok(())
 }
 
 // Reads on from this place, and gives the place where the input ends, or the buffer does.
-fn fill(input: &mut [u8], held: usize) -> usize
+fn fill<R: Read>(from: &mut R, input: &mut [u8], held: usize) -> usize
     requires { held ≤ length input.old }
     ensures { result ≤ length input.old }
 {
-    held + io::read_full(STDIN_FILENO, &mut input[held..])
+    held + read_full(from, &mut input[held..])
+}
+
+// Reads until the buffer is full, the input ends or a read fails, and gives the number of bytes that came.
+fn read_full<R: Read>(from: &mut R, buf: &mut [u8]) -> usize
+    ensures { result ≤ length buf.new }
+{
+    let mut done: usize = 0;
+    while done < buf.len() {
+        let Ok(n) = from.read(&mut buf[done..]) else {
+            return done;
+        };
+        if n == 0 {
+            return done;
+        }
+        done += n;
+    }
+    done
 }
 
 // Moves the bytes from this place on to the front, and gives their number.
@@ -58,20 +97,25 @@ fn keep(input: &mut [u8], from: usize) -> usize
 
 // Marks the sheets that are whole, and gives the place after them; where the input has ended, also one that it cuts
 // off.
-fn mark_sheets(sheets: &[u8], ended: bool, out: &mut [u8]) -> usize
-    ensures { result ≤ length sheets.now }
+fn mark_sheets<W: Write>(
+    to: &mut W,
+    sheets: &[u8],
+    ended: bool,
+    out: &mut [u8],
+) -> io::Result<usize>
+    ensures { IfOk result (λ at. at ≤ length sheets.now) }
 {
     let mut at: usize = 0;
     let mut used: usize = 0;
     let mut next = end_of(sheets, at, ended);
     while at < next {
-        used = with_room(out, used);
+        used = with_room(to, out, used)?;
         used = mark(&sheets[at + 2..next], out, used);
         at = next;
         next = end_of(sheets, at, ended);
     }
-    io::write_all(STDOUT_FILENO, &out[..used]);
-    at
+    to.write_all(&out[..used])?;
+    Ok(at)
 }
 
 // The place after the sheet that begins at this one; or this one, where that sheet is not to be marked (yet).
@@ -101,15 +145,15 @@ fn two(high: u8, low: u8) -> usize
 }
 
 // Writes the texts unless one more has room after them, and gives the place for it.
-fn with_room(out: &[u8], used: usize) -> usize
+fn with_room<W: Write>(to: &mut W, out: &[u8], used: usize) -> io::Result<usize>
     requires { used ≤ length out.now }
-    ensures { result ≤ length out.now }
+    ensures { IfOk result (λ at. at ≤ length out.now) }
 {
     if MOST_TEXT <= out.len() - used {
-        return used;
+        return Ok(used);
     }
-    io::write_all(STDOUT_FILENO, &out[..used]);
-    0
+    to.write_all(&out[..used])?;
+    Ok(0)
 }
 
 // Stores the text of a sheet at this place, and gives the place after it.

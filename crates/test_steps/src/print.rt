@@ -2,164 +2,156 @@
 use compression::{Compression, Stresses};
 use entries::{AnchorsEntry, Course, Sheet, SiteEntry, TankEntry};
 use fields::{Answer, Refusal};
-use libc::STDOUT_FILENO;
 use sheet::writing::Written;
+use std::io;
+use std::io::Write;
 
-pub(crate) fn held() {
-    io::write_all(STDOUT_FILENO, b"held");
+pub(crate) fn held<W: Write>(out: &mut W) -> io::Result<()> {
+    write!(out, "held")
 }
 
-pub(crate) fn answer(a: Answer) {
+pub(crate) fn answer<W: Write>(out: &mut W, a: Answer) -> io::Result<()> {
     match a {
-        Answer::Accepted => {
-            io::write_all(STDOUT_FILENO, b"ok");
-        }
-        Answer::Refused(r) => refusal(r),
+        Answer::Accepted => write!(out, "ok"),
+        Answer::Refused(r) => refusal(out, r),
     }
 }
 
-pub(crate) fn judged(a: Answer) {
+pub(crate) fn judged<W: Write>(out: &mut W, a: Answer) -> io::Result<()> {
     match a {
-        Answer::Accepted => {
-            io::write_all(STDOUT_FILENO, b"accepted");
-        }
-        Answer::Refused(r) => refusal(r),
+        Answer::Accepted => write!(out, "accepted"),
+        Answer::Refused(r) => refusal(out, r),
     }
 }
 
-pub(crate) fn written(w: Written) {
+pub(crate) fn written<W: Write>(out: &mut W, w: Written) -> io::Result<()> {
     match w {
         Written::Bytes(n) => {
-            io::write_all(STDOUT_FILENO, b"wrote");
-            number(n as u64);
+            write!(out, "wrote")?;
+            number(out, n as u64)
         }
-        Written::Refused(r) => refusal(r),
+        Written::Refused(r) => refusal(out, r),
     }
 }
 
-pub(crate) fn compression(c: Compression) {
+pub(crate) fn compression<W: Write>(out: &mut W, c: Compression) -> io::Result<()> {
     match c {
-        Compression::Given(v) => stresses(v),
-        Compression::Refused(r) => refusal(r),
+        Compression::Given(v) => stresses(out, v)?,
+        Compression::Refused(r) => refusal(out, r)?,
     }
-    io::write_all(STDOUT_FILENO, b"\n");
+    writeln!(out)
 }
 
-fn stresses(v: Stresses) {
-    io::write_all(STDOUT_FILENO, b"stress");
-    number(v.stress);
-    io::write_all(STDOUT_FILENO, b" allowed");
-    number(v.allowed);
+fn stresses<W: Write>(out: &mut W, v: Stresses) -> io::Result<()> {
+    write!(out, "stress")?;
+    number(out, v.stress)?;
+    write!(out, " allowed")?;
+    number(out, v.allowed)?;
     if v.holds {
-        io::write_all(STDOUT_FILENO, b" holds yes");
+        write!(out, " holds yes")
     } else {
-        io::write_all(STDOUT_FILENO, b" holds no");
+        write!(out, " holds no")
     }
 }
 
-fn refusal(r: Refusal) {
+fn refusal<W: Write>(out: &mut W, r: Refusal) -> io::Result<()> {
     let code = r.code();
-    io::write_all(STDOUT_FILENO, b"refused");
-    number(code.number as u64);
-    if code.field != 0 {
-        number(code.field as u64);
+    write!(out, "refused")?;
+    number(out, code.number as u64)?;
+    if code.field == 0 {
+        return Ok(());
     }
+    number(out, code.field as u64)
 }
 
 // A blank and the number.
-pub(crate) fn number(n: u64) {
-    io::write_all(STDOUT_FILENO, b" ");
-    io::print_decimal(STDOUT_FILENO, n);
+pub(crate) fn number<W: Write>(out: &mut W, n: u64) -> io::Result<()> {
+    write!(out, " {n}")
 }
 
-fn numbers(all: &[u32]) {
+fn numbers<W: Write>(out: &mut W, all: &[u32]) -> io::Result<()> {
     let mut i: usize = 0;
     while i < all.len() {
-        number(all[i] as u64);
+        number(out, all[i] as u64)?;
         i += 1;
     }
+    Ok(())
 }
 
-pub(crate) fn buffer(room: &[u8]) {
-    io::write_all(STDOUT_FILENO, b" buffer ");
+pub(crate) fn buffer<W: Write>(out: &mut W, room: &[u8]) -> io::Result<()> {
+    write!(out, " buffer ")?;
     let mut i: usize = 0;
     while i < room.len() {
-        io::print_hex(STDOUT_FILENO, room[i] as u64, 2);
+        write!(out, "{:02x}", room[i])?;
         i += 1;
     }
-    io::write_all(STDOUT_FILENO, b"\n");
+    writeln!(out)
 }
 
-pub(crate) fn sheet(s: Sheet) {
+pub(crate) fn sheet<W: Write>(out: &mut W, s: Sheet) -> io::Result<()> {
     let entry = s.tank;
-    tank(entry);
+    tank(out, entry)?;
     let entry = s.site;
-    site(entry);
+    site(out, entry)?;
     let entry = s.anchors;
-    anchors(entry);
-    io::write_all(STDOUT_FILENO, b" count");
-    number(s.count as u64);
+    anchors(out, entry)?;
+    write!(out, " count")?;
+    number(out, s.count as u64)?;
     let courses = s.courses;
-    slots(courses);
-    io::write_all(STDOUT_FILENO, b"\n");
+    slots(out, courses)?;
+    writeln!(out)
 }
 
-fn tank(entry: TankEntry) {
-    io::write_all(STDOUT_FILENO, b" tank");
+fn tank<W: Write>(out: &mut W, entry: TankEntry) -> io::Result<()> {
+    write!(out, " tank")?;
     match entry {
-        TankEntry::Blank => {
-            io::write_all(STDOUT_FILENO, b" -");
-        }
+        TankEntry::Blank => write!(out, " -"),
         TankEntry::Filled(t) => {
             let figures = [t.diameter, t.level, t.weight, t.plate, t.allowance, t.fy];
-            numbers(&figures);
+            numbers(out, &figures)
         }
     }
 }
 
-fn site(entry: SiteEntry) {
-    io::write_all(STDOUT_FILENO, b" site");
+fn site<W: Write>(out: &mut W, entry: SiteEntry) -> io::Result<()> {
+    write!(out, " site")?;
     match entry {
-        SiteEntry::Blank => {
-            io::write_all(STDOUT_FILENO, b" -");
-        }
+        SiteEntry::Blank => write!(out, " -"),
         SiteEntry::Filled(x) => {
             let figures = [x.speed, x.exposure, x.importance, x.vertical, x.moment];
-            numbers(&figures);
+            numbers(out, &figures)
         }
     }
 }
 
-fn anchors(entry: AnchorsEntry) {
-    io::write_all(STDOUT_FILENO, b" anchors");
+fn anchors<W: Write>(out: &mut W, entry: AnchorsEntry) -> io::Result<()> {
+    write!(out, " anchors")?;
     match entry {
-        AnchorsEntry::Blank => {
-            io::write_all(STDOUT_FILENO, b" -");
-        }
+        AnchorsEntry::Blank => write!(out, " -"),
         AnchorsEntry::Filled(a) => {
             let figures = [a.number, a.circle, a.size];
-            numbers(&figures);
+            numbers(out, &figures)
         }
     }
 }
 
-fn slots(courses: [Course; 12]) {
+fn slots<W: Write>(out: &mut W, courses: [Course; 12]) -> io::Result<()> {
     let mut i: usize = 0;
     while i < 12 {
         let c = courses[i];
-        slot(c);
+        slot(out, c)?;
         i += 1;
     }
+    Ok(())
 }
 
-fn slot(c: Course) {
+fn slot<W: Write>(out: &mut W, c: Course) -> io::Result<()> {
     if is_blank(c) {
-        io::write_all(STDOUT_FILENO, b" -");
-        return;
+        return write!(out, " -");
     }
-    io::write_all(STDOUT_FILENO, b" course");
+    write!(out, " course")?;
     let figures = [c.width, c.plate, c.allowance, c.stress, c.efficiency];
-    numbers(&figures);
+    numbers(out, &figures)
 }
 
 fn is_blank(c: Course) -> bool {

@@ -1,100 +1,101 @@
 // A report as the rest of a line of text, in oracle/judged.py's letters.
 use crate::print::number;
-use libc::STDOUT_FILENO;
 use reports::report::{AnchorChecks, CourseLine, Report, SelfChecks, Standing, Uses, Word};
 use rules::verdict::Verdict;
 use stability::earthquake::Uplift;
+use std::io;
+use std::io::Write;
 
-pub(crate) fn report(r: Report) {
+pub(crate) fn report<W: Write>(out: &mut W, r: Report) -> io::Result<()> {
     let called = r.word;
-    word(called);
-    text(b" wind");
-    number(r.pressure);
-    number(r.moment);
+    word(out, called)?;
+    text(out, b" wind")?;
+    number(out, r.pressure)?;
+    number(out, r.moment)?;
     let way = r.standing;
-    standing(way);
+    standing(out, way)?;
     let two = r.uses;
-    uses(two);
-    text(b" courses");
-    number(r.count as u64);
+    uses(out, two)?;
+    text(out, b" courses")?;
+    number(out, r.count as u64)?;
     let all = r.lines;
-    lines(all);
-    text(b"\n");
+    lines(out, all)?;
+    text(out, b"\n")
 }
 
-fn text(letters: &[u8]) {
-    io::write_all(STDOUT_FILENO, letters);
+fn text<W: Write>(out: &mut W, letters: &[u8]) -> io::Result<()> {
+    out.write_all(letters)
 }
 
-fn word(w: Word) {
+fn word<W: Write>(out: &mut W, w: Word) -> io::Result<()> {
     match w {
-        Word::Sound => text(b" sound"),
-        Word::Short => text(b" short"),
+        Word::Sound => text(out, b" sound"),
+        Word::Short => text(out, b" short"),
     }
 }
 
-fn standing(s: Standing) {
+fn standing<W: Write>(out: &mut W, s: Standing) -> io::Result<()> {
     match s {
-        Standing::SelfAnchored(c) => self_anchored(c),
-        Standing::Anchored(c) => anchored(c),
+        Standing::SelfAnchored(c) => self_anchored(out, c),
+        Standing::Anchored(c) => anchored(out, c),
     }
 }
 
-fn self_anchored(c: SelfChecks) {
-    text(b" self");
+fn self_anchored<W: Write>(out: &mut W, c: SelfChecks) -> io::Result<()> {
+    text(out, b" self")?;
     let wind = c.wind;
-    verdict(wind);
-    number(c.resistance);
+    verdict(out, wind)?;
+    number(out, c.resistance)?;
     let lift = c.uplift;
-    uplift(lift);
+    uplift(out, lift)?;
     let quake = c.quake;
-    verdict(quake);
+    verdict(out, quake)
 }
 
-fn anchored(c: AnchorChecks) {
-    text(b" anchored");
-    signed(c.wind_pull);
-    signed(c.quake_pull);
+fn anchored<W: Write>(out: &mut W, c: AnchorChecks) -> io::Result<()> {
+    text(out, b" anchored")?;
+    signed(out, c.wind_pull)?;
+    signed(out, c.quake_pull)?;
     let spacing = c.spacing;
-    verdict(spacing);
+    verdict(out, spacing)?;
     let strength = c.strength;
-    verdict(strength);
+    verdict(out, strength)
 }
 
-fn uplift(u: Uplift) {
+fn uplift<W: Write>(out: &mut W, u: Uplift) -> io::Result<()> {
     match u {
-        Uplift::None => text(b" none"),
-        Uplift::Lift => text(b" lift"),
-        Uplift::Over => text(b" over"),
+        Uplift::None => text(out, b" none"),
+        Uplift::Lift => text(out, b" lift"),
+        Uplift::Over => text(out, b" over"),
     }
 }
 
-fn uses(u: Uses) {
-    text(b" uses");
-    float(u.first);
-    float(u.second);
+fn uses<W: Write>(out: &mut W, u: Uses) -> io::Result<()> {
+    text(out, b" uses")?;
+    float(out, u.first)?;
+    float(out, u.second)
 }
 
-fn lines(all: [CourseLine; 12]) {
+fn lines<W: Write>(out: &mut W, all: [CourseLine; 12]) -> io::Result<()> {
     let mut i: usize = 0;
     while i < 12 {
         let l = all[i];
-        line(l);
+        line(out, l)?;
         i += 1;
     }
+    Ok(())
 }
 
-fn line(l: CourseLine) {
+fn line<W: Write>(out: &mut W, l: CourseLine) -> io::Result<()> {
     let v = l.verdict;
     if is_blank(l, v) {
-        text(b" .");
-        return;
+        return text(out, b" .");
     }
-    text(b" |");
-    number(l.need);
-    number(l.required);
-    number(l.plate as u64);
-    verdict(v);
+    text(out, b" |")?;
+    number(out, l.need)?;
+    number(out, l.required)?;
+    number(out, l.plate as u64)?;
+    verdict(out, v)
 }
 
 // Whether this is the blank line past the courses; v is its verdict.
@@ -114,30 +115,27 @@ fn is_blank(l: CourseLine, v: Verdict) -> bool {
     exact::bits(x) == 0
 }
 
-fn verdict(v: Verdict) {
+fn verdict<W: Write>(out: &mut W, v: Verdict) -> io::Result<()> {
     match v {
         Verdict::Holds(x) => {
-            text(b" holds");
-            float(x);
+            text(out, b" holds")?;
+            float(out, x)
         }
         Verdict::Short(x) => {
-            text(b" short");
-            float(x);
+            text(out, b" short")?;
+            float(out, x)
         }
     }
 }
 
-fn signed(z: i64) {
+fn signed<W: Write>(out: &mut W, z: i64) -> io::Result<()> {
     if z < 0 {
-        text(b" -");
-        io::print_decimal(STDOUT_FILENO, exact::magnitude(z));
-        return;
+        return write!(out, " -{}", exact::magnitude(z));
     }
-    number(exact::magnitude(z));
+    number(out, exact::magnitude(z))
 }
 
 // A float by its bits, in hexadecimal.
-fn float(x: f64) {
-    text(b" ");
-    io::print_hex(STDOUT_FILENO, exact::bits(x), 16);
+fn float<W: Write>(out: &mut W, x: f64) -> io::Result<()> {
+    write!(out, " {:016x}", exact::bits(x))
 }
