@@ -4,17 +4,18 @@
 use mathlib.Core.Path.{◌≡◌, sym, subst}
 use mathlib.Core.Bool.{not}
 use Prim.Native.Nat.{ℕ, ◌+◌, ◌*◌, ◌^◌, ◌≤◌, ◌<◌, min, zero-le}
-use native.Mathlib.Nat.{lt_of_not-le, min-le_left, min-le_right, mul-le-mul, mul-le-mul_right, one-le-pow, zero-mul}
+use native.Mathlib.Nat.{lt_of_not-le, min-le_left, min-le_right, mul-le-mul, mul-le-mul_right, zero-mul}
 use native.Mathlib.Decide.{dec_le}
 use native.Mathlib.Omega.{arith}
 use lib.Dec.{T, T_not, not_T, le→leb, leb→le, lit<}
 use Rattle.exact.specs.Quotient.{Ratio, whole, down_of, AtMost}
 use Rattle.exact.specs.Fraction.{◌over◌, times, power, ◌≤ʳ◌}
-use Rattle.exact.proofs.FractionLaws.{≤ʳ-trans, ≤ʳ-refl, times_le, power_le, le_of_power}
+use Rattle.exact.proofs.FractionLaws.{≤ʳ-trans, power_le, le_of_power}
 use Rattle.exact.proofs.GreatestLaws.{greatest_found}
 use Rattle.exact.proofs.QuotientLaws.{rounded_down, down_same}
 use Rattle.buckling.specs.Bounds.{most_coefficient}
 use Rattle.buckling.specs.Coefficient.{argument_exact, argument_of, printed_power, AtLeastPrinted, hundred_thousandths, passes, Entry, last_place, entry_at, coefficient_of}
+use Rattle.buckling.proofs.PowerLaws.{printed_grows, power_above}
 
 module _ (H D t : ℕ) (p : 0 < t) where
   parts_above : 0 < (argument_exact H D t).den
@@ -40,11 +41,6 @@ smaller_passes i e k h t =
     le→leb _ _
     (≤ʳ-trans (power (hundred_thousandths e) 25) (power (hundred_thousandths k) 25) (printed_power (i over 10000)) (lit< tt)
     (power_le 25 (hundred_thousandths e) (hundred_thousandths k) (mul-le-mul_right 100000 h)) (leb→le _ _ t))
-
-printed_grows : (x y : Ratio) → x ≤ʳ y → printed_power x ≤ʳ printed_power y
-printed_grows x y h =
-    let c = power (72 over 100) 25 in
-    times_le c c (power x 21) (power y 21) (≤ʳ-refl c) (power_le 21 x y h)
 
 later_passes : (i k e : ℕ) → i ≤ k → T (passes i e) → T (passes k e)
 unfolding passes
@@ -92,13 +88,10 @@ module _ (argument : ℕ) where
   unfolding coefficient_of
   coefficient_most = entry_most (min argument last_place) place_within
 
--- an entry's power, and the divisor of the argument's
+-- an entry's power
 entry_power : (a : ℕ) → power (hundred_thousandths (coefficient_of a)) 25 ≤ʳ printed_power (min a last_place over 10000)
 unfolding passes
 entry_power a = leb→le _ _ (coefficient_entry a).fits
-
-power_above : (H D t : ℕ) → 0 < t → 0 < (printed_power (argument_exact H D t)).den
-power_above H D t p = mul-le-mul (lit< {m = 0} {n = 100 ^ 25} tt) (one-le-pow 21 (argument_exact H D t).den (parts_above H D t p))
 
 -- The coefficient for a tank's argument is at most every fraction that is at least the printed one: its 25th power is at most the printed one of
 -- the chart's place, which is at or below the argument.
@@ -112,4 +105,4 @@ coefficient_safe H D t p c printed =
     le_of_power 25 e c (lit< tt)
     (≤ʳ-trans (power e 25) (printed_power place) (power c 25) (lit< tt)
     (entry_power argument)
-    (≤ʳ-trans (printed_power place) (printed_power x) (power c 25) (power_above H D t p) (printed_grows place x below) printed))
+    (≤ʳ-trans (printed_power place) (printed_power x) (power c 25) (power_above x (parts_above H D t p)) (printed_grows place x below) printed))

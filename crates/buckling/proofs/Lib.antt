@@ -1,5 +1,7 @@
 -- The laws that callers' proofs cite.
 pub mod StressLaws
+pub mod Entries
+pub mod PowerLaws
 pub mod CoefficientLaws
 pub mod AllowedLaws
 pub mod Computed

@@ -86,7 +86,7 @@ vertical_at_most : (sds : ℕ) → sds ≤ greatest.sds → vertical_of sds ≤ 
 unfolding vertical_of
 vertical_at_most sds h = up_least (vertical_exact sds).num (vertical_exact sds).den (omega arith) greatest.vertical (omega arith)
 
-values_justified : (class Ss S1 : ℕ) → 65 ≤ class → class ≤ 69 → Ss ≤ most_mapped → S1 ≤ most_mapped
+pub values_justified : (class Ss S1 : ℕ) → 65 ≤ class → class ≤ 69 → Ss ≤ most_mapped → S1 ≤ most_mapped
     → ValuesJustified class Ss S1 (values_of class Ss S1)
 unfolding values_of sds_of sd1_of vertical_of
 values_justified class Ss S1 first last ss-mapped s1-mapped =

@@ -24,6 +24,7 @@ const MOST_MAPPED: u32 = 3000;
 
 // The design values of a site class, by its capital letter, and of map values in thousandths of g, up to 3,000.
 // Refused: 41, 40.
+#[tactic(auto, unfolding(crate::specs::Motion::ground_motion, crate::specs::Motion::ground_motion_code))]
 pub fn ground_motion(class: u8, ss: u32, s1: u32) -> GroundMotion
     ensures value { result ≡ ground_motion class ss s1 }
     ensures code { motion_code result ≡ ground_motion_code class ss s1 }

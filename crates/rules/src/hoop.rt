@@ -45,6 +45,7 @@ pub fn need(h: u32, diameter: u32, stress: u32, efficiency: u32) -> u64
 }
 
 // The least plate for a diameter.
+#[tactic(auto, unfolding(crate::specs::Hoop::plate_floor))]
 pub fn floor(diameter: u32) -> u64
     ensures { result ≡ plate_floor diameter }
 {
@@ -56,6 +57,7 @@ pub fn floor(diameter: u32) -> u64
 }
 
 // The required plate: the need with the allowance or the floor, whichever is larger.
+#[tactic(auto, unfolding(crate::specs::Hoop::required_plate))]
 pub fn required(need: u64, allowance: u32, diameter: u32) -> u64
     requires need_le_most_need { need ≤ most_need }
     requires allowance_in { In 17 allowance }

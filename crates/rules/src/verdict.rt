@@ -10,6 +10,7 @@ pub enum Verdict {
     Short(f64),
 }
 
+#[tactic(auto, unfolding(crate::specs::Verdict::verdict_of, crate::specs::Verdict::use_of), using(crate::proofs::VerdictLaws::verdict_for))]
 pub fn verdict_of(need: u64, capacity: u64) -> Verdict
     requires { Sides need capacity }
     ensures value { result ≡ verdict_of need capacity }

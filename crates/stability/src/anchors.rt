@@ -58,6 +58,7 @@ pub fn pull(moment: u64, weight: DeadWeight, circle: u32, count: u32) -> i64
 }
 
 // What the strength rule takes of two pulls: the larger, or 0 if that is negative.
+#[tactic(auto, unfolding(crate::specs::Anchors::larger_pull))]
 pub fn larger(wind: i64, quake: i64) -> u64
     ensures { result ≡ larger_pull wind quake }
 {

@@ -49,6 +49,7 @@ pub fn bottom_cap(level: u32, diameter: u32) -> u64
 
 // wL: the weight of the water over the bottom annulus that resists overturning, in hundredths of a
 // pound per foot of shell.
+#[tactic(auto, unfolding(crate::specs::Earthquake::bottom_weight))]
 pub fn bottom_weight(plate: u32, yield_stress: u32, level: u32, diameter: u32) -> u64
     requires plate_le_most_plate { plate ≤ most_plate }
     requires yield_stress_le_most_yield { yield_stress ≤ most_yield }

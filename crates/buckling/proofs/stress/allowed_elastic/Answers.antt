@@ -12,17 +12,17 @@ use Rattle.buckling.proofs.AllowedLaws.{allowed_elastic}
 use Rattle.buckling.proofs.stress.allowed_elastic.Goals as goal
 
 module _ (e D t : ℕ) (h : e ≤ most_coefficient) (d : In 1 D) (k : t ≤ most_net) where
-  slope-most : (350000 + 29 * e) * D ≤ 133784880000
-  slope-most = mul-le-mul {n₂ = 557437} (omega arith) d.1
+  slope_most : (350000 + 29 * e) * D ≤ 133784880000
+  slope_most = mul-le-mul {n₂ = 557437} (omega arith) d.1
 
-  square-most : (350000 + 29 * e) * D * D ≤ 32108371200000000
-  square-most = mul-le-mul slope-most d.1
+  square_most : (350000 + 29 * e) * D * D ≤ 32108371200000000
+  square_most = mul-le-mul slope_most d.1
 
-  cube-most : 700000000 * t * t ≤ 2800000000000000
-  cube-most = mul-le-mul {n₂ = 1400000000000} (omega arith) k
+  cube_most : 700000000 * t * t ≤ 2800000000000000
+  cube_most = mul-le-mul {n₂ = 1400000000000} (omega arith) k
 
-  numerator-most : ((350000 + 29 * e) * D * D + 700000000 * t * t) * (1333 * t) ≤ 93065717619200000000000
-  numerator-most = mul-le-mul {n₂ = 34908371200000000} {m₂ = 2666000} (omega (arith, square-most, cube-most)) (omega arith)
+  numerator_most : ((350000 + 29 * e) * D * D + 700000000 * t * t) * (1333 * t) ≤ 93065717619200000000000
+  numerator_most = mul-le-mul {n₂ = 34908371200000000} {m₂ = 2666000} (omega (arith, square_most, cube_most)) (omega arith)
 
   quotient_fits : (n : ℕ) → n ≤ 93065717619200000000000 → down_of (down_of (down_of n (1000 * D)) D) D < 2 ^ 64
   quotient_fits n l =
@@ -30,13 +30,13 @@ module _ (e D t : ℕ) (h : e ≤ most_coefficient) (d : In 1 D) (k : t ≤ most
       ((div-lt_iff_lt-mul {x = n} {y = 2 ^ 64} (omega (arith, d))).1 (omega (arith, d)))
 
 pub overflow_mul-sum-2 : goal.overflow_mul-sum-2
-overflow_mul-sum-2 c = record { fits = omega (arith, slope-most _ _ _ c.requires.coefficient_le_most_coefficient c.requires.diameter_in c.requires.net_le_most_net) }
+overflow_mul-sum-2 c = record { fits = omega (arith, slope_most _ _ _ c.requires.coefficient_le_most_coefficient c.requires.diameter_in c.requires.net_le_most_net) }
 
 pub overflow_mul-sum-3 : goal.overflow_mul-sum-3
-overflow_mul-sum-3 c = record { fits = omega (arith, square-most _ _ _ c.requires.coefficient_le_most_coefficient c.requires.diameter_in c.requires.net_le_most_net) }
+overflow_mul-sum-3 c = record { fits = omega (arith, square_most _ _ _ c.requires.coefficient_le_most_coefficient c.requires.diameter_in c.requires.net_le_most_net) }
 
 pub overflow_mul-sum-5 : goal.overflow_mul-sum-5
-overflow_mul-sum-5 c = record { fits = omega (arith, cube-most _ _ _ c.requires.coefficient_le_most_coefficient c.requires.diameter_in c.requires.net_le_most_net) }
+overflow_mul-sum-5 c = record { fits = omega (arith, cube_most _ _ _ c.requires.coefficient_le_most_coefficient c.requires.diameter_in c.requires.net_le_most_net) }
 
 pub overflow_add-sum-2 : goal.overflow_add-sum-2
 overflow_add-sum-2 c =
@@ -44,8 +44,8 @@ overflow_add-sum-2 c =
       fits =
           omega (
             arith,
-            square-most _ _ _ c.requires.coefficient_le_most_coefficient c.requires.diameter_in c.requires.net_le_most_net,
-            cube-most _ _ _ c.requires.coefficient_le_most_coefficient c.requires.diameter_in c.requires.net_le_most_net,
+            square_most _ _ _ c.requires.coefficient_le_most_coefficient c.requires.diameter_in c.requires.net_le_most_net,
+            cube_most _ _ _ c.requires.coefficient_le_most_coefficient c.requires.diameter_in c.requires.net_le_most_net,
           );
     }
 
@@ -60,7 +60,7 @@ narrow-requires c =
     subst (λ (x : ℕ). x < 2 ^ 64)
     (sym (divided _ _ _ _ _ _ _ c.product-num.ensures c.down-first.ensures c.down-second.ensures c.down-third.ensures))
     (quotient_fits a.coefficient a.diameter a.net b.requires.coefficient_le_most_coefficient b.requires.diameter_in b.requires.net_le_most_net _
-    (numerator-most a.coefficient a.diameter a.net b.requires.coefficient_le_most_coefficient b.requires.diameter_in b.requires.net_le_most_net))
+    (numerator_most a.coefficient a.diameter a.net b.requires.coefficient_le_most_coefficient b.requires.diameter_in b.requires.net_le_most_net))
 
 pub returns : goal.returns
 returns c =

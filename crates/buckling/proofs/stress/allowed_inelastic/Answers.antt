@@ -7,17 +7,17 @@ use Rattle.buckling.specs.Bounds.{most_coefficient}
 use Rattle.buckling.proofs.AllowedLaws.{allowed_inelastic}
 use Rattle.buckling.proofs.stress.allowed_inelastic.Goals as goal
 
-slope-most : (e t : ℕ) → e ≤ most_coefficient → t ≤ 15000 → (147600 + 29 * e) * t ≤ 5325555000
-slope-most e t h k = mul-le-mul {n₂ = 355037} (omega arith) k
+slope_most : (e t : ℕ) → e ≤ most_coefficient → t ≤ 15000 → (147600 + 29 * e) * t ≤ 5325555000
+slope_most e t h k = mul-le-mul {n₂ = 355037} (omega arith) k
 
 pub overflow_mul-sum-3 : goal.overflow_mul-sum-3
-overflow_mul-sum-3 c = record { fits = omega (arith, slope-most _ c.args.net c.requires.coefficient_le_most_coefficient (omega arith)) }
+overflow_mul-sum-3 c = record { fits = omega (arith, slope_most _ c.args.net c.requires.coefficient_le_most_coefficient (omega arith)) }
 
 pub overflow_add-sum-2 : goal.overflow_add-sum-2
-overflow_add-sum-2 c = record { fits = omega (arith, slope-most _ c.args.net c.requires.coefficient_le_most_coefficient (omega arith)) }
+overflow_add-sum-2 c = record { fits = omega (arith, slope_most _ c.args.net c.requires.coefficient_le_most_coefficient (omega arith)) }
 
 pub overflow_mul-sum-4 : goal.overflow_mul-sum-4
-overflow_mul-sum-4 c = record { fits = omega (arith, slope-most _ c.args.net c.requires.coefficient_le_most_coefficient (omega arith)) }
+overflow_mul-sum-4 c = record { fits = omega (arith, slope_most _ c.args.net c.requires.coefficient_le_most_coefficient (omega arith)) }
 
 pub returns : goal.returns
 returns c =

@@ -9,23 +9,23 @@ use Rattle.fields.specs.Range.{In}
 use Rattle.buckling.proofs.StressLaws.{stress_reduced}
 use Rattle.buckling.proofs.stress.compression.Goals as goal
 
-rate-most : (W Av : ℕ) → In 3 W → In 10 Av → 113 * W * (2500 + Av) ≤ 3390000000000
-rate-most W Av w v = mul-le-mul {n₂ = 1130000000} {m₂ = 3000} (omega arith) (omega arith)
+rate_most : (W Av : ℕ) → In 3 W → In 10 Av → 113 * W * (2500 + Av) ≤ 3390000000000
+rate_most W Av w v = mul-le-mul {n₂ = 1130000000} {m₂ = 3000} (omega arith) (omega arith)
 
-load-most : (W Av D : ℕ) → In 3 W → In 10 Av → In 1 D → 113 * W * (2500 + Av) * D ≤ 813600000000000000
-load-most W Av D w v d = mul-le-mul (rate-most W Av w v) d.1
+load_most : (W Av D : ℕ) → In 3 W → In 10 Av → In 1 D → 113 * W * (2500 + Av) * D ≤ 813600000000000000
+load_most W Av D w v d = mul-le-mul (rate_most W Av w v) d.1
 
 pub overflow_mul-load-2 : goal.overflow_mul-load-2
-overflow_mul-load-2 c = record { fits = omega (arith, rate-most _ _ c.requires.weight_in c.requires.vertical_in) }
+overflow_mul-load-2 c = record { fits = omega (arith, rate_most _ _ c.requires.weight_in c.requires.vertical_in) }
 
 pub overflow_mul-load-3 : goal.overflow_mul-load-3
-overflow_mul-load-3 c = record { fits = omega (arith, load-most _ _ _ c.requires.weight_in c.requires.vertical_in c.requires.diameter_in) }
+overflow_mul-load-3 c = record { fits = omega (arith, load_most _ _ _ c.requires.weight_in c.requires.vertical_in c.requires.diameter_in) }
 
 pub overflow_add-load-2 : goal.overflow_add-load-2
-overflow_add-load-2 c = record { fits = omega (arith, load-most _ _ _ c.requires.weight_in c.requires.vertical_in c.requires.diameter_in) }
+overflow_add-load-2 c = record { fits = omega (arith, load_most _ _ _ c.requires.weight_in c.requires.vertical_in c.requires.diameter_in) }
 
 pub overflow_mul-load-4 : goal.overflow_mul-load-4
-overflow_mul-load-4 c = record { fits = omega (arith, load-most _ _ _ c.requires.weight_in c.requires.vertical_in c.requires.diameter_in) }
+overflow_mul-load-4 c = record { fits = omega (arith, load_most _ _ _ c.requires.weight_in c.requires.vertical_in c.requires.diameter_in) }
 
 pub overflow_mul-net-2 : goal.overflow_mul-net-2
 overflow_mul-net-2 c = mul_fits {A = 142000} (omega arith) c.requires.diameter_in.1 tt

@@ -25,21 +25,21 @@ module _ (z den : ℤ) (fz : SFits w64 z) (fd : SFits w64 den) (d : ℕ) (p : 0 
   unfolding quotient
   quotient_is = rw (to_z-of_z fz, to_z-of_z fd, e)
 
-  rest-is : rest z den ≡ rem_z z (pos d)
+  rest_is : rest z den ≡ rem_z z (pos d)
   unfolding rest
-  rest-is = rw (to_z-of_z fz, to_z-of_z fd, to_z-of_z (sfits_le (mag_rem z den) fz), e)
+  rest_is = rw (to_z-of_z fz, to_z-of_z fd, to_z-of_z (sfits_le (mag_rem z den) fz), e)
 
   divisible : (0 < of_z w64 den) × SFits w64 (quotient z den)
   divisible = (rw e p, rw quotient_is (quot_fits z d fz))
 
-  more-fits : lt_z (pos 0) (rest z den) ≡ true → SFits w64 (to_z w64 (of_z w64 (quotient z den)) +ℤ pos 1)
-  more-fits t = rw (to_z-of_z divisible.1, quotient_is) (cut_fits d p z (rw rest-is at t) fz)
+  more_fits : lt_z (pos 0) (rest z den) ≡ true → SFits w64 (to_z w64 (of_z w64 (quotient z den)) +ℤ pos 1)
+  more_fits t = rw (to_z-of_z divisible.1, quotient_is) (cut_fits d p z (rw rest_is at t) fz)
 
-  more-is : lt_z (pos 0) (rest z den) ≡ true → to_z w64 (of_z w64 (to_z w64 (of_z w64 (quotient z den)) +ℤ pos 1)) ≡ up_ℤ z (nat_abs den)
-  more-is t = rw (to_z-of_z (more-fits t), to_z-of_z divisible.1, quotient_is, e) (cut_up d p z (rw rest-is at t))
+  more_is : lt_z (pos 0) (rest z den) ≡ true → to_z w64 (of_z w64 (to_z w64 (of_z w64 (quotient z den)) +ℤ pos 1)) ≡ up_ℤ z (nat_abs den)
+  more_is t = rw (to_z-of_z (more_fits t), to_z-of_z divisible.1, quotient_is, e) (cut_up d p z (rw rest_is at t))
 
   whole_is : lt_z (pos 0) (rest z den) ≡ false → to_z w64 (of_z w64 (quotient z den)) ≡ up_ℤ z (nat_abs den)
-  whole_is t = rw (to_z-of_z divisible.1, quotient_is, e) (uncut_up d p z (rw rest-is at t))
+  whole_is t = rw (to_z-of_z divisible.1, quotient_is, e) (uncut_up d p z (rw rest_is at t))
 
 -- a divisor above 0 is a whole number
 abbrev Whole : ℤ → Type 0
@@ -61,14 +61,14 @@ unfolding quotient rest
 overflow_add-result c =
     let s = c.before in
     let w = whole s.args.den s.requires in
-    more-fits _ _ s.ranges.num s.ranges.den w.0 w.1 w.2 c.if-num-den-gt0.true
+    more_fits _ _ s.ranges.num s.ranges.den w.0 w.1 w.2 c.if-num-den-gt0.true
 
 pub returns-then-num-den-gt0 : goal.returns-then-num-den-gt0
 unfolding quotient rest
 returns-then-num-den-gt0 c =
     let s = c.before in
     let w = whole s.args.den s.requires in
-    more-is _ _ s.ranges.num s.ranges.den w.0 w.1 w.2 c.if-num-den-gt0.true
+    more_is _ _ s.ranges.num s.ranges.den w.0 w.1 w.2 c.if-num-den-gt0.true
 
 pub returns : goal.returns
 unfolding quotient rest

@@ -30,20 +30,20 @@ fits_in s n w b e t = rw (← e, le-leb _ _ t)
 
 -- One bit more: what is left of the range is halved, and the definition takes the same step.
 module _ (s n k : ℕ) (h : 0 < k) (le : k ≤ 32) (room : n + 2 ^ k ≤ 2 ^ 32) where
-  the-bit : bit (k - 1) ≡ 2 ^ (k - 1)
-  the-bit = bit_is (k - 1) (omega arith)
+  the_bit : bit (k - 1) ≡ 2 ^ (k - 1)
+  the_bit = bit_is (k - 1) (omega arith)
 
   one_less : k ≡ suc (k - 1)
   one_less = omega arith
 
   doubled : n + bit (k - 1) + 2 ^ (k - 1) ≤ 2 ^ 32
-  doubled = omega (arith, the-bit, two-pow-succ (k - 1), ap (λ (x : ℕ). 2 ^ x) one_less)
+  doubled = omega (arith, the_bit, two-pow-succ (k - 1), ap (λ (x : ℕ). 2 ^ x) one_less)
 
   more_lt : n + bit (k - 1) < 2 ^ 32
   more_lt = omega (arith, doubled, pow_pos (k - 1))
 
-  square-lt : (n + bit (k - 1)) * (n + bit (k - 1)) < 2 ^ 64
-  square-lt = lt_of_le_of_lt (mul-le-mul (le-pred_of_lt more_lt) (le-pred_of_lt more_lt)) (lit< tt)
+  square_lt : (n + bit (k - 1)) * (n + bit (k - 1)) < 2 ^ 64
+  square_lt = lt_of_le_of_lt (mul-le-mul (le-pred_of_lt more_lt) (le-pred_of_lt more_lt)) (lit< tt)
 
   steps : (m : ℕ) → tried (k - 1) (square_within s) n ≡ m → low_bits (k - 1) (square_within s) m ≡ low_bits k (square_within s) n
   unfolding low_bits
@@ -51,11 +51,11 @@ module _ (s n k : ℕ) (h : 0 < k) (le : k ≤ 32) (room : n + 2 ^ k ≤ 2 ^ 32)
 
   took : (n + bit (k - 1)) * (n + bit (k - 1)) ≤ s → low_bits (k - 1) (square_within s) (n + bit (k - 1)) ≡ low_bits k (square_within s) n
   unfolding tried
-  took t = steps (n + bit (k - 1)) (fits_in s n (2 ^ (k - 1)) (bit (k - 1)) the-bit t)
+  took t = steps (n + bit (k - 1)) (fits_in s n (2 ^ (k - 1)) (bit (k - 1)) the_bit t)
 
   kept : s < (n + bit (k - 1)) * (n + bit (k - 1)) → low_bits (k - 1) (square_within s) n ≡ low_bits k (square_within s) n
   unfolding tried
-  kept t = steps n (rw (← the-bit, lt-leb _ _ t))
+  kept t = steps n (rw (← the_bit, lt-leb _ _ t))
 
 pub loop-k-init : goal.loop-k-init
 loop-k-init c = (refl, omega arith, omega arith)
@@ -70,7 +70,7 @@ pub overflow_add-more : goal.overflow_add-more
 overflow_add-more c = let l = c.loop-k in record { fits = omega (arith, more_lt 0 l.n l.k c.loop-k-test.true l.invariant.2 l.invariant.1) }
 
 pub overflow_mul-more : goal.overflow_mul-more
-overflow_mul-more c = let l = c.loop-k in record { fits = square-lt 0 l.n l.k c.loop-k-test.true l.invariant.2 l.invariant.1 }
+overflow_mul-more c = let l = c.loop-k in record { fits = square_lt 0 l.n l.k c.loop-k-test.true l.invariant.2 l.invariant.1 }
 
 pub loop-k-smaller-then-more-square : goal.loop-k-smaller-then-more-square
 loop-k-smaller-then-more-square c = omega arith

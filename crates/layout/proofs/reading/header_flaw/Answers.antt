@@ -53,9 +53,6 @@ bounds-bytes-59 c = let f = c.before in
     let k = length_least l.length_in-length.result (sym d.is_length.ensures ∙ d.if-not-is_length.false) in
     omega arith
 
-pub overflow_cast-bytes : goal.overflow_cast-bytes
-overflow_cast-bytes c = omega (arith, c.shared_slice_known-3-1.given 59)
-
 pub returns-then-bytes-count_of : goal.returns-then-bytes-count_of
 returns-then-bytes-count_of c = let g = c.before in
     let f = g.before in

@@ -7,19 +7,17 @@ use Rattle.entries.specs.Sheet.{height_of}
 use Rattle.entries.proofs.CourseLaws.{height_next}
 use Rattle.parts.proofs.slots.height.Goals as goal
 
--- `parts::slots::height` meets its contract. Assumes nothing.
-
 pub loop-i-init : goal.loop-i-init
 loop-i-init c = (omega arith, refl, omega arith)
 
 pub overflow_cast-sum : goal.overflow_cast-sum
-overflow_cast-sum c = omega (arith, c.struct_known-1.given)
+overflow_cast-sum c = omega arith
 
 pub overflow_add-sum : goal.overflow_add-sum
-overflow_add-sum c = omega (arith, c.struct_known-1.given)
+overflow_add-sum c = omega arith
 
 pub loop-i-preserved : goal.loop-i-preserved
-loop-i-preserved c = (omega arith, omega (arith, height_next c.args.courses c.loop-i.i (omega arith)), omega (arith, c.struct_known-1.given))
+loop-i-preserved c = (omega arith, omega (arith, height_next c.args.courses c.loop-i.i (omega arith)), omega arith)
 
 pub returns : goal.returns
 returns c = let e : c.loop-i.i ≡ c.args.n = omega arith in

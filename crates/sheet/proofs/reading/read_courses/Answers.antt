@@ -32,10 +32,10 @@ returns-in-Refused c = let t = c.before in
     ∙ ap with_height (sym (l.invariant.4 ∙ course_refused a.tank a.site a.anchors a.tail.now a.n l.i l.courses (omega arith) (omega arith) t.course_at-c.ensures l.invariant.2 t.added_flaw-flaw.ensures c.in-Refused.is))
 
 pub overflow_cast-height : goal.overflow_cast-height
-overflow_cast-height c = omega (arith, c.struct_known-1.given)
+overflow_cast-height c = omega arith
 
 pub overflow_add-height : goal.overflow_add-height
-overflow_add-height c = omega (arith, c.struct_known-1.given, c.loop-i.invariant.3)
+overflow_add-height c = omega (arith, c.loop-i.invariant.3)
 
 pub loop-i-preserved : goal.loop-i-preserved
 loop-i-preserved c = let t = c.before in
