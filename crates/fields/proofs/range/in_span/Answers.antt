@@ -20,8 +20,8 @@ greatests =
 least_at : (k : ℕ) → k < 20 → get_or leasts k 0 ≡ (range k).least
 least_at = holds_rule leasts (λ k. (range k).least) 20 tt
 
-greatest-at : (k : ℕ) → k < 20 → get_or greatests k 0 ≡ (range k).greatest
-greatest-at = holds_rule greatests (λ k. (range k).greatest) 20 tt
+greatest_at : (k : ℕ) → k < 20 → get_or greatests k 0 ≡ (range k).greatest
+greatest_at = holds_rule greatests (λ k. (range k).greatest) 20 tt
 
 pub returns-then-field-gt19 : goal.returns-then-field-gt19
 returns-then-field-gt19 c = nowhere _ _ c.if-field-gt19.true
@@ -30,10 +30,10 @@ pub returns-then-figure-k : goal.returns-then-figure-k
 returns-then-figure-k c = below _ _ (omega (arith, least_at c.args.field (omega arith)))
 
 pub returns-then-k-figure : goal.returns-then-k-figure
-returns-then-k-figure c = above _ _ (omega (arith, greatest-at c.args.field (omega arith)))
+returns-then-k-figure c = above _ _ (omega (arith, greatest_at c.args.field (omega arith)))
 
 pub returns : goal.returns
 returns c =
     let k = c.args.field in
     let h : k < 20 = omega arith in
-    inside _ _ (omega (arith, least_at k h)) (omega (arith, greatest-at k h))
+    inside _ _ (omega (arith, least_at k h)) (omega (arith, greatest_at k h))
