@@ -6,6 +6,9 @@ ghost use Rattle.exact.specs.Wide.{base, value_of};
 // 2 to the 32.
 const BASE: u64 = 4294967296;
 
+// What a division that comes out even leaves.
+const NO_REMAINDER: u64 = 0;
+
 // high * 2 to the 32, and low.
 #[derive(Clone, Copy)]
 pub struct Wide {
@@ -46,7 +49,7 @@ impl Wide {
     {
         let whole = self.down(den);
         let rest = self.rest(den);
-        if rest % den as u64 == 0 {
+        if rest % den as u64 == NO_REMAINDER {
             return whole;
         }
         whole.next()

@@ -11,12 +11,12 @@ use Rattle.exact.proofs.wide.Wide.up.Goals as goal
 left_over : (B h l d r : ℕ) → 0 < d → r ≡ h % d * B + l → r % d ≡ (h * B + l) % d
 left_over B h l d r p e = ap (λ (x : ℕ). x % d) e ∙ short_remainder B h l d p
 
-pub returns-then-rest-den-eq0 : goal.returns-then-rest-den-eq0
-returns-then-rest-den-eq0 c =
+pub returns-then-rest-den-eq-NO_REMAINDER : goal.returns-then-rest-den-eq-NO_REMAINDER
+returns-then-rest-den-eq-NO_REMAINDER c =
     let a = c.args in
     let p = c.requires in
     c.down-whole.ensures
-    ∙ up_divides (value_of a.self) a.den p (sym (left_over base a.self.high a.self.low a.den _ p c.rest-rest.ensures) ∙ c.if-rest-den-eq0.true)
+    ∙ up_divides (value_of a.self) a.den p (sym (left_over base a.self.high a.self.low a.den _ p c.rest-rest.ensures) ∙ c.if-rest-den-eq-NO_REMAINDER.true)
 
 pub next-requires : goal.next-requires
 next-requires c =
@@ -25,7 +25,7 @@ next-requires c =
     omega (
       arith,
       c.down-whole.ensures,
-      up_within (value_of a.self) a.den p (omega (arith, c.if-rest-den-eq0.false, left_over base a.self.high a.self.low a.den _ p c.rest-rest.ensures)),
+      up_within (value_of a.self) a.den p (omega (arith, c.if-rest-den-eq-NO_REMAINDER.false, left_over base a.self.high a.self.low a.den _ p c.rest-rest.ensures)),
     )
 
 pub returns : goal.returns
@@ -35,4 +35,4 @@ returns c =
     c.next.ensures
     ∙ ap (λ (x : ℕ). x + 1) c.down-whole.ensures
     ∙ up_leaves (value_of a.self) a.den b.requires
-    (omega (arith, c.if-rest-den-eq0.false, left_over base a.self.high a.self.low a.den _ b.requires c.rest-rest.ensures))
+    (omega (arith, c.if-rest-den-eq-NO_REMAINDER.false, left_over base a.self.high a.self.low a.den _ b.requires c.rest-rest.ensures))
