@@ -28,12 +28,15 @@ fn put_two(out: &mut [u8], at: usize, n: u32) -> usize
     at + 2
 }
 
+// The least number of two digits.
+const TWO_DIGITS: u32 = 10;
+
 // The digits of a number: below 100, below 10,000, and of any size.
 fn put_below_hundred(out: &mut [u8], at: usize, n: u32) -> usize
     requires { (at + length (decimal n) ≤ length out.old) × (n < 100) }
     ensures { Stored out.old at (decimal n) out.new result }
 {
-    if n < 10 {
+    if n < TWO_DIGITS {
         out[at] = 48 + n as u8;
         return at + 1;
     }

@@ -6,8 +6,8 @@ use Rattle.words.proofs.DecimalLaws.{decimal_below, decimal_two}
 use Rattle.words.proofs.StoreLaws.{byte}
 use Rattle.words.proofs.store.put_below_hundred.Goals as goal
 
-pub returns-then-n-lt10 : goal.returns-then-n-lt10
-returns-then-n-lt10 c = rw (decimal_below c.args.n (omega arith)) byte
+pub returns-then-n-lt-TWO_DIGITS : goal.returns-then-n-lt-TWO_DIGITS
+returns-then-n-lt-TWO_DIGITS c = rw (decimal_below c.args.n (omega arith)) byte
 
 pub put_two-requires : goal.put_two-requires
 put_two-requires c = (omega (arith, ap length (decimal_two c.args.n (omega arith) (omega arith))), omega arith)
