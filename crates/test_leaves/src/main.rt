@@ -13,11 +13,12 @@ mod question_leaves;
 mod rule_leaves;
 mod weight_leaves;
 
-ghost use Rattle.std.specs.Prelude.{◌≡◌, ◌≤◌, ◌<◌, IfOk, length};
+ghost use Rattle.std.specs.Prelude.{◌≤◌, ◌<◌, IfOk, length};
 ghost use Rattle.test_leaves.specs.Scan.{Scanned};
 
+use input::{read_full, zeros};
 use std::io;
-use std::io::{BufWriter, Read, Write};
+use std::io::{BufWriter, Write};
 
 #[derive(Clone, Copy)]
 struct Scan {
@@ -26,35 +27,11 @@ struct Scan {
 }
 
 fn main(rt: HostRuntime) -> io::Result<()> {
-    let mut space: [u8; 524288] = buffer();
-    let n = read_full(&mut rt.stdin(), &mut space);
+    let mut space: [u8; 524288] = zeros();
+    let n = read_full(&mut rt.stdin(), &mut space).count;
     let mut out = BufWriter::new(rt.alloc(), io::writer(&rt))?;
     run(&mut out, &space[..n])?;
     out.flush()
-}
-
-// Zeros. For any N, and the `ensures` gives only the length, so that no proof counts up to a large one.
-fn buffer<const N: usize>() -> [u8; N]
-    ensures { length result ≡ N }
-{
-    [0; N]
-}
-
-// Reads until the buffer is full, the input ends or a read fails, and gives the number of bytes that came.
-fn read_full<R: Read>(input: &mut R, buf: &mut [u8]) -> usize
-    ensures { result ≤ length buf.new }
-{
-    let mut done: usize = 0;
-    while done < buf.len() {
-        let Ok(n) = input.read(&mut buf[done..]) else {
-            return done;
-        };
-        if n == 0 {
-            return done;
-        }
-        done += n;
-    }
-    done
 }
 
 fn run<W: Write>(out: &mut W, text: &[u8]) -> io::Result<()> {

@@ -3,8 +3,9 @@
 // the buffer.
 #![tactic(auto)]
 
-ghost use Rattle.std.specs.Prelude.{◌≡◌, ◌+◌, ◌≤◌, ◌<◌, IfOk, length};
+ghost use Rattle.std.specs.Prelude.{◌+◌, ◌≤◌, ◌<◌, IfOk, length};
 
+use input::{read_full, zeros};
 use std::io;
 use std::io::{Read, Write};
 use text::marker;
@@ -17,21 +18,14 @@ const ROOM: usize = 131072;
 const TEXTS_ROOM: usize = 65536;
 
 fn main(rt: HostRuntime) -> io::Result<()> {
-    let mut space: [u8; ROOM] = buffer();
-    let mut texts: [u8; TEXTS_ROOM] = buffer();
+    let mut space: [u8; ROOM] = zeros();
+    let mut texts: [u8; TEXTS_ROOM] = zeros();
     mark_all(
         &mut rt.stdin(),
         &mut io::writer(&rt),
         &mut space,
         &mut texts,
     )
-}
-
-// Zeros. For any N, and the `ensures` gives only the length, so that no proof counts up to a large one.
-fn buffer<const N: usize>() -> [u8; N]
-    ensures { length result ≡ N }
-{
-    [0; N]
 }
 
 // A proved loop has to end: this one counts its turns down, from a number that no input uses up.
@@ -61,24 +55,7 @@ fn fill<R: Read>(from: &mut R, input: &mut [u8], held: usize) -> usize
     requires { held ≤ length input.old }
     ensures { result ≤ length input.old }
 {
-    held + read_full(from, &mut input[held..])
-}
-
-// Reads until the buffer is full, the input ends or a read fails, and gives the number of bytes that came.
-fn read_full<R: Read>(from: &mut R, buf: &mut [u8]) -> usize
-    ensures { result ≤ length buf.new }
-{
-    let mut done: usize = 0;
-    while done < buf.len() {
-        let Ok(n) = from.read(&mut buf[done..]) else {
-            return done;
-        };
-        if n == 0 {
-            return done;
-        }
-        done += n;
-    }
-    done
+    held + read_full(from, &mut input[held..]).count
 }
 
 // Moves the bytes from this place on to the front, and gives their number.

@@ -5,7 +5,7 @@
 // oracle/records.py has the format, and makes both the scripts and what is to be written.
 #![tactic(auto)]
 
-ghost use Rattle.std.specs.Prelude.{◌≤◌, length};
+ghost use Rattle.std.specs.Prelude.{◌≤◌};
 
 mod figures;
 mod print;
@@ -13,6 +13,7 @@ mod report;
 
 use compression::{Compression, shell_compression};
 use entries::Sheet;
+use input::read_full;
 use judge::judging;
 use reports::report::Judgement;
 use sheet::steps::Reply;
@@ -40,7 +41,7 @@ fn records<W: Write, R: Read>(out: &mut W, input: &mut R) -> io::Result<()> {
     let mut n: usize = 0;
     while n < MOST_RECORDS {
         let mut head = [0u8; 3];
-        if read_full(input, &mut head) < 3 {
+        if read_full(input, &mut head).count < 3 {
             return Ok(());
         }
         let size = 256 * figures::wide(head[1]) + figures::wide(head[2]);
@@ -51,23 +52,6 @@ fn records<W: Write, R: Read>(out: &mut W, input: &mut R) -> io::Result<()> {
         n += 1;
     }
     Ok(())
-}
-
-// Reads until the buffer is full, the input ends or a read fails, and gives the number of bytes that came.
-fn read_full<R: Read>(input: &mut R, buf: &mut [u8]) -> usize
-    ensures { result ≤ length buf.new }
-{
-    let mut done: usize = 0;
-    while done < buf.len() {
-        let Ok(n) = input.read(&mut buf[done..]) else {
-            return done;
-        };
-        if n == 0 {
-            return done;
-        }
-        done += n;
-    }
-    done
 }
 
 // The sheet after the record whose payload, of this size, comes next.

@@ -1,0 +1,51 @@
+// What the programs that read share: a buffer of zeros, and reading into a buffer until it is full.
+#![tactic(auto)]
+
+ghost use Rattle.std.specs.Io.KnownBytes.{Consumes, IsAtEnd};
+ghost use Rattle.std.specs.Prelude.{◌≡◌, ◌<◌, ◌≤◌, false, length, replicate, take};
+
+use std::io::Read;
+
+// How many bytes came, and whether it was a read that failed that ended it.
+#[derive(Clone, Copy)]
+pub struct Filled {
+    pub count: usize,
+    pub failed: bool,
+}
+
+// Zeros. For any N, so that no proof counts up to a large one.
+pub fn zeros<const N: usize>() -> [u8; N]
+    ensures content { result ≡ replicate N 0 }
+    ensures size { length result ≡ N }
+{
+    [0; N]
+}
+
+// Reads until the buffer is full, the input ends or a read fails. One read does not do: a pipe hands its bytes out in
+// pieces. Whether a read fails is the reader's; the bytes are its next ones, and all that it gave.
+pub fn read_full<R: Read>(input: &mut R, buf: &mut [u8]) -> Filled
+    ensures within { result.count ≤ length buf.new }
+    ensures bytes { Consumes (R.remaining input.old) (R.remaining input.new) (take result.count buf.new) }
+    ensures ended { result.failed ≡ false → result.count < length buf.new → IsAtEnd (R.remaining input.new) }
+{
+    let mut count: usize = 0;
+    while count < buf.len() {
+        let Ok(n) = input.read(&mut buf[count..]) else {
+            return Filled {
+                count,
+                failed: true,
+            };
+        };
+        if n == 0 {
+            return Filled {
+                count,
+                failed: false,
+            };
+        }
+        count += n;
+    }
+    Filled {
+        count,
+        failed: false,
+    }
+}
