@@ -3,13 +3,15 @@
 -- Assumes nothing.
 use mathlib.Core.Path.{◌≡◌, ap, ◌∙◌}
 use mathlib.Core.Bool.{Bool, true, false, cond}
-use Prim.Native.Nat.{ℕ, ◌+◌, ◌*◌, ◌≤◌, ◌<◌}
-use native.Mathlib.Nat.{mul-le-mul}
+use Prim.Native.Nat.{ℕ, ◌+◌, ◌*◌, ◌≤◌, ◌<◌, ◌^◌}
+use native.Mathlib.Nat.{div-le_of_le-mul, lt_of_le_of_lt, mul-le-mul}
 use native.Mathlib.Omega.{arith}
 use Rattle.exact.specs.Quotient.{Ratio, whole, plus, down_of, AtMost}
 use Rattle.exact.specs.Fraction.{◌over◌, times, divided_by, ◌≤ʳ◌, at_most}
 use Rattle.exact.proofs.FractionLaws.{at_most_lem, not_at_most, ≤ʳ-trans, ≤ʳ-refl, times_le, plus_le, divided_le}
 use Rattle.exact.proofs.QuotientLaws.{rounded_down, rounded_down_only, down_same}
+use Rattle.fields.specs.Range.{In}
+use Rattle.buckling.specs.Bounds.{most_coefficient, most_net}
 use Rattle.buckling.specs.Units.{plate_inches, radius}
 use Rattle.buckling.specs.Coefficient.{modulus, hundred_thousandths}
 use Rattle.buckling.specs.Allowed.{thickness_ratio, elastic_limit, inelastic_limit, elastic, inelastic, plastic, local_buckling, pressure_help, allowed_exact, allowed_of}
@@ -105,3 +107,23 @@ module _ (e D t : ℕ) (d : 0 < D) where
   pub allowed_plastic : D < 16 * t → allowed_of e D t ≡ down_of (1333 * (15000 * D + 29 * e * t)) (1000 * D)
   unfolding allowed_of allowed_exact
   allowed_plastic h = rw (is_plastic D t h) (down_same _ _ _ _ (omega (arith, d)) thousand_above (omega arith))
+
+-- the quotient fits 64 bits, its numerator 77
+module _ (e D t : ℕ) (h : e ≤ most_coefficient) (d : In 1 D) (k : t ≤ most_net) where
+  slope_most : (350000 + 29 * e) * D ≤ 133784880000
+  slope_most = mul-le-mul {n₂ = 557437} (omega arith) d.1
+
+  squares_most : (350000 + 29 * e) * D * D + 700000000 * t * t ≤ 34908371200000000
+  squares_most = omega (arith, mul-le-mul slope_most d.1, mul-le-mul {n₁ = 700000000 * t} {n₂ = 1400000000000} (omega arith) k)
+
+  numerator_most : ((350000 + 29 * e) * D * D + 700000000 * t * t) * (1333 * t) ≤ 93065717619200000000000
+  numerator_most = mul-le-mul {m₂ = 2666000} squares_most (omega arith)
+
+  pub elastic_fits : down_of (((350000 + 29 * e) * D * D + 700000000 * t * t) * (1333 * t)) (1000 * D * D * D) < 2 ^ 64
+  elastic_fits = lt_of_le_of_lt (div-le_of_le-mul (1000 * D * D * D) {n = 93065717} (omega (arith, numerator_most, cube))) (omega arith)
+    where
+      cube : 12000 * 12000 * 12000 ≤ D * D * D
+      cube = mul-le-mul (mul-le-mul d.0 d.0) d.0
+
+-- what the code needs
+pub ruleset allowed_laws = (allowed_elastic, allowed_inelastic, allowed_plastic, elastic_fits)

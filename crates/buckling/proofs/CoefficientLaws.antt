@@ -84,9 +84,12 @@ module _ (argument : ℕ) where
   unfolding coefficient_of
   coefficient_entry = entry_is (min argument last_place) place_within
 
-  pub coefficient_most : coefficient_of argument ≤ most_coefficient
+  pub coefficient_is : (r : ℕ) → r ≡ entry_at (min argument last_place) → r ≡ coefficient_of argument
   unfolding coefficient_of
-  coefficient_most = entry_most (min argument last_place) place_within
+  coefficient_is r e = e
+
+-- what the code needs
+pub ruleset coefficient_laws = (coefficient_is, entry_most)
 
 -- an entry's power
 entry_power : (a : ℕ) → power (hundred_thousandths (coefficient_of a)) 25 ≤ʳ printed_power (min a last_place over 10000)

@@ -1,6 +1,5 @@
 -- The laws that callers' proofs cite.
 pub mod StressLaws
-pub mod Entries
 pub mod PowerLaws
 pub mod CoefficientLaws
 pub mod AllowedLaws

@@ -51,5 +51,5 @@ pub(crate) fn entry(place: usize) -> u32
     requires { place ≤ last_place }
     ensures { result ≡ entry_at place }
 {
-    CHART[place] as u32
+    u32::from(CHART[place])
 }

@@ -5,4 +5,7 @@
 
 mod chart;
 pub mod pressure;
+mod shell;
 pub mod stress;
+
+pub use shell::Shell;

@@ -8,43 +8,32 @@ ghost use Rattle.sheet.specs.Reading.{ReadsBack};
 use crate::status;
 use entries::Sheet;
 use fields::Refusal;
-use sheet::complete::{Completeness, Entries};
-use sheet::writing::Written;
+use sheet::complete::Entries;
 
 // Fills the first 60 + 20 × n bytes, which are read as the same sheet, and gives that number. Refused: 30,
 // 32, 35, 36, 38, 19.
-pub fn write(s: Sheet, out: &mut [u8]) -> Written
+pub fn write(s: Sheet, out: &mut [u8]) -> Result<usize, Refusal>
     ensures value { result ≡ (written s out.old).answer }
     ensures buffer { out.new ≡ (written s out.old).buffer }
     ensures code { write_code result ≡ written_code s (length out.old) }
     ensures reads_back { ReadsBack s result out.new }
 {
-    let completed = status::of_sheet(s);
-    let status = completed.status;
-    let entries = completed.entries;
-    match status {
-        Completeness::Unreachable => Written::Refused(Refusal::Unreachable),
-        Completeness::Refused(refusal) => Written::Refused(refusal),
-        Completeness::Complete => write_entries(entries, out),
-    }
+    write_entries(status::of_sheet(s)?, out)
 }
 
 // The entries of a complete sheet. Refused: 19.
-fn write_entries(e: Entries, out: &mut [u8]) -> Written
+fn write_entries(e: Entries, out: &mut [u8]) -> Result<usize, Refusal>
     requires { Valid e }
     ensures value { result ≡ (written_entries e out.old).answer }
     ensures buffer { out.new ≡ (written_entries e out.old).buffer }
 {
     let n = e.count;
-    if out.len() < 60 + 20 * n {
-        return Written::Refused(Refusal::BufferTooShort);
+    let size = 60 + 20 * n;
+    if out.len() < size {
+        return Err(Refusal::BufferTooShort);
     }
-    let tank = e.tank;
-    let site = e.site;
-    let anchors = e.anchors;
-    let courses = e.courses;
-    layout::writing::put_prefix(out, tank, n);
-    layout::writing::put_tail_head(out, 27, site, anchors, n);
-    layout::writing::put_courses(out, 60, courses, n);
-    Written::Bytes(60 + 20 * n)
+    layout::writing::put_prefix(out, e.tank, n);
+    layout::writing::put_tail_head(out, 27, e.site, e.anchors, n);
+    layout::writing::put_courses(out, 60, &e.courses[..n]);
+    Ok(size)
 }

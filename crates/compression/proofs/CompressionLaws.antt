@@ -1,5 +1,6 @@
 -- The order of the question's refusals and its reply; what its figures are; and that no method changes them.
 -- Assumes nothing.
+use Rattle.std.specs.Prelude.{Result, Ok, Err}
 use mathlib.Core.Path.{◌≡◌, refl, sym, ap, ◌∙◌, subst}
 use mathlib.Core.Bool.{Bool, true, false, cond, ◌&&◌, true≢false}
 use mathlib.Core.List.{[], ◌∷◌, ◌++◌}
@@ -13,14 +14,13 @@ use lib.ListN.{length, get_or, take}
 use Rattle.lists.proofs.EachLaws.{each_at}
 use Rattle.exact.specs.Quotient.{Ratio}
 use Rattle.exact.specs.Fraction.{◌≤ʳ◌}
-use Rattle.fields.specs.Order.{first_of, at, First, clear, codes, answer_code, and_then}
+use Rattle.std.specs.Result.{result_and}
+use Rattle.fields.specs.Order.{Answer, first_of, at, First, clear, codes, answer_code, reply_unless}
 use Rattle.fields.specs.Refusal.{plain}
-use Rattle.fields.specs.declared.answer.Answer.{Answer}
-use Rattle.fields.specs.declared.answer.Answer.TheVariants.{Accepted, Refused}
 use Rattle.fields.specs.declared.refusal.Code.{Code}
 use Rattle.fields.specs.declared.refusal.Refusal.{Refusal}
 use Rattle.fields.specs.declared.refusal.Refusal.TheVariants.{ShellUplift, Unreachable}
-use Rattle.fields.proofs.OrderLaws.{clash, first_then, first_append, first_code_lem, Replies, reply_refused, reply_refused_exactly, reply_given_exactly}
+use Rattle.fields.proofs.OrderLaws.{clash, first_then, first_append, first_code_lem, reply_refused, reply_refused_exactly, reply_given_exactly}
 use Rattle.fields.proofs.RefusalLaws.{never_zero}
 use Rattle.stability.specs.Earthquake.{uplift_of}
 use Rattle.rules.specs.Method.{method_number, other_method}
@@ -43,18 +43,16 @@ use Rattle.parts.specs.Parts.{courses_clear}
 use Rattle.sheet.specs.Steps.{LeftByRun}
 use Rattle.sheet.specs.Complete.{incomplete, entries_of, completed_of, Valid}
 use Rattle.sheet.specs.declared.complete.Entries.{Entries}
-use Rattle.sheet.specs.declared.complete.Completed.{Completed}
 use Rattle.sheet.proofs.AnswerLaws.{never_answered, thirty_first}
-use Rattle.sheet.proofs.CompleteLaws.{entries_are, status_is, valid}
+use Rattle.sheet.proofs.CompleteLaws.{entries_are, complete_is, valid}
 use Rattle.reports.specs.Figures.{resistance_on}
 use Rattle.reports.specs.Report.{report_of, standing_of, self_checks, anchor_checks}
 use Rattle.reports.specs.Judging.{water_above, judge_order, judged, judged_completed}
 use Rattle.reports.specs.declared.report.Standing.TheVariants.{SelfAnchored, Anchored}
 use Rattle.reports.specs.declared.report.Judgement.{Judgement}
-use Rattle.reports.proofs.JudgeLaws.{judged_completed_lem, judged_answer, answer_first, accepted_status, accepted_report}
-use Rattle.compression.specs.Compression.{net_plate, self_anchored, lifts, shell_uplift, compression_order, coefficient_on, stresses_with, stresses_of, given_unless, shell_compression, uplifted, unless_uplifted, no_stresses, compression_code, shell_compression_code, PrintedHelp, StressesJustified, ReplyJustified}
+use Rattle.reports.proofs.JudgeLaws.{judged_completed_lem, judged_answer, answer_first, accepted_entries, accepted_report}
+use Rattle.compression.specs.Compression.{net_plate, self_anchored, lifts, shell_uplift, compression_order, coefficient_on, stresses_with, stresses_of, shell_compression, uplifted, unless_uplifted, no_stresses, compression_code, shell_compression_code, PrintedHelp, StressesJustified, ReplyJustified}
 use Rattle.compression.specs.declared.question.Stresses.{Stresses}
-use Rattle.compression.specs.declared.question.Compression as Compression
 
 -- ---- THE BOTTOM COURSE
 
@@ -132,10 +130,6 @@ worked_out e f g h = rw (f, h, g) refl
 
 -- ---- THE ANSWER
 
--- figures are no refusal
-replies : Replies Compression.TheVariants.Given Compression.TheVariants.Refused
-replies = record { apart = λ e. absurd (let z : ◌≡◌ {A = ℕ} 0 1 = cc in omega arith); same = λ e. cc }
-
 module _ (n : ℕ) (s : Sheet) where
   -- the documents' numbers, in their order
   pub compression_order_lem : codes (compression_order n s)
@@ -143,15 +137,15 @@ module _ (n : ℕ) (s : Sheet) where
   compression_order_lem = refl
 
   -- each exactly under its condition with none before it,
-  pub compression_exactly : (r : Refusal) → (shell_compression n s ≡ Compression.TheVariants.Refused r) ↔ First (compression_order n s) r
+  pub compression_exactly : (r : Refusal) → (shell_compression n s ≡ Err r) ↔ First (compression_order n s) r
   unfolding shell_compression
-  compression_exactly = reply_refused_exactly replies (stresses_of (entries_of s)) (compression_order n s)
+  compression_exactly = reply_refused_exactly (stresses_of (entries_of s)) (compression_order n s)
 
   -- figures exactly where no condition applies,
-  pub given_exactly : (shell_compression n s ≡ Compression.TheVariants.Given (stresses_of (entries_of s)))
+  pub given_exactly : (shell_compression n s ≡ Ok (stresses_of (entries_of s)))
       ↔ ((j : ℕ) → j < length (compression_order n s) → (at (compression_order n s) j).applies ≡ false)
   unfolding shell_compression
-  given_exactly = reply_given_exactly replies (stresses_of (entries_of s)) (compression_order n s)
+  given_exactly = reply_given_exactly (stresses_of (entries_of s)) (compression_order n s)
 
   -- and by code
   pub compression_code_lem : compression_code (shell_compression n s) ≡ shell_compression_code n s
@@ -162,9 +156,9 @@ module _ (n : ℕ) (s : Sheet) where
       v : Stresses
       v = stresses_of (entries_of s)
 
-      go : (a : Answer) → compression_code (given_unless a v) ≡ record { code = answer_code a; stresses = cond (eqb (answer_code a).number 0) v no_stresses }
-      go Accepted = refl
-      go (Refused r) = rw (never_zero r)
+      go : (a : Answer) → compression_code (reply_unless a v) ≡ record { code = answer_code a; stresses = cond (eqb (answer_code a).number 0) v no_stresses }
+      go (Ok u) = refl
+      go (Err r) = rw (never_zero r)
 
 -- any method gives the same reply
 pub method_free : (method other : Method) (s : Sheet) → shell_compression (method_number method) s ≡ shell_compression (method_number other) s
@@ -186,57 +180,57 @@ uplift_is tank site anchors M = go (eqb anchors.number 0)
 
 module _ (n : ℕ) (s : Sheet) where
   -- 43 comes after judging's own refusals
-  compression_first : first_of (compression_order n s) ≡ and_then (first_of (judge_order n s)) (first_of (shell_uplift (entries_of s) ∷ []))
+  compression_first : first_of (compression_order n s) ≡ result_and (first_of (judge_order n s)) (first_of (shell_uplift (entries_of s) ∷ []))
   compression_first = first_then (judge_order n s) (shell_uplift (entries_of s) ∷ [])
 
   -- 30 exactly where no run of steps leaves the sheet
-  pub thirty_compression : (shell_compression n s ≡ Compression.TheVariants.Refused Unreachable) ↔ (LeftByRun s → ⊥)
+  pub thirty_compression : (shell_compression n s ≡ Err Unreachable) ↔ (LeftByRun s → ⊥)
   unfolding shell_compression
   thirty_compression =
       let f = thirty_first s (other_method n ∷ (incomplete s ++ water_above (entries_of s) ∷ []) ++ shell_uplift (entries_of s) ∷ []) tt in
-      let g = reply_refused replies (stresses_of (entries_of s)) (first_of (compression_order n s)) Unreachable in
+      let g = reply_refused (stresses_of (entries_of s)) (first_of (compression_order n s)) Unreachable in
       (λ e. f.0 (g.0 e), λ k. g.1 (f.1 k))
 
   -- 43 exactly where judging gives a report, and the tank is self-anchored and lifts
-  pub forty_three_exactly : (shell_compression n s ≡ Compression.TheVariants.Refused ShellUplift)
-      ↔ (((judged n s).answer ≡ Accepted) × ((shell_uplift (entries_of s)).applies ≡ true))
+  pub forty_three_exactly : (shell_compression n s ≡ Err ShellUplift)
+      ↔ (((judged n s).answer ≡ Ok tt) × ((shell_uplift (entries_of s)).applies ≡ true))
   unfolding shell_compression
   forty_three_exactly =
       let f = go (first_of (judge_order n s)) (shell_uplift (entries_of s)).applies (never_answered ShellUplift (judge_order n s) tt) in
-      let g = reply_refused replies (stresses_of (entries_of s)) (first_of (compression_order n s)) ShellUplift in (
+      let g = reply_refused (stresses_of (entries_of s)) (first_of (compression_order n s)) ShellUplift in (
         λ e. (judged_answer n s ∙ (f.0 (sym compression_first ∙ g.0 e)).0, (f.0 (sym compression_first ∙ g.0 e)).1),
         λ k. g.1 (compression_first ∙ f.1 (sym (judged_answer n s) ∙ k.0, k.1)),
       )
     where
-      go : (a : Answer) (b : Bool) → (a ≡ Refused ShellUplift → ⊥)
-          → (and_then a (cond b (Refused ShellUplift) Accepted) ≡ Refused ShellUplift) ↔ ((a ≡ Accepted) × (b ≡ true))
-      go Accepted true f = (λ e. (refl, refl), λ k. refl)
-      go Accepted false f = (λ e. clash (sym e), λ k. absurd (true≢false (sym k.1)))
-      go (Refused r) b f = (λ e. absurd (f e), λ k. clash k.0)
+      go : (a : Answer) (b : Bool) → (a ≡ Err ShellUplift → ⊥)
+          → (◌≡◌ {A = Answer} (result_and a (cond {A = Answer} b (Err ShellUplift) (Ok (tt {0})))) (Err ShellUplift)) ↔ ((a ≡ Ok (tt {0})) × (b ≡ true))
+      go (Ok u) true f = (λ e. (refl, refl), λ k. refl)
+      go (Ok u) false f = (λ e. clash (sym e), λ k. absurd (true≢false (sym k.1)))
+      go (Err r) b f = (λ e. absurd (f e), λ k. clash k.0)
 
   -- the reply, where judging is refused and where it is not
-  module _ {c : Completed} (first : c ≡ completed_of s) {j : Judgement} (judgement : j ≡ judged_completed n c) where
-    pub refused_first : {r : Refusal} → j.answer ≡ Refused r → Compression.TheVariants.Refused r ≡ shell_compression n s
+  module _ {c : Result Entries Refusal} (first : c ≡ completed_of s) {j : Judgement} (judgement : j ≡ judged_completed n c) where
+    pub refused_first : {r : Refusal} → j.answer ≡ Err r → Err r ≡ shell_compression n s
     unfolding shell_compression
     refused_first e = sym (rw (compression_first, answer_first n s first judgement e) refl)
 
-    pub accepted_first : j.answer ≡ Accepted → unless_uplifted j.report.standing c.entries ≡ shell_compression n s
+    pub accepted_first : j.answer ≡ Ok tt → {d : Entries} → c ≡ Ok d → unless_uplifted j.report.standing d ≡ shell_compression n s
     unfolding shell_compression report_of
-    accepted_first e =
-        rw (compression_first, answer_first n s first judgement e, accepted_report n s first judgement e, entries_are s first (accepted_status n s first judgement e), uplift_is _ _ _ _) refl
+    accepted_first e k =
+        rw (compression_first, answer_first n s first judgement e, accepted_report n s first judgement e, entries_are s first k, uplift_is _ _ _ _) refl
 
   reply_justified : ReplyJustified (entries_of s) (shell_compression n s)
   unfolding shell_compression
   reply_justified = go (first_of (compression_order n s)) refl
     where
-      go : (a : Answer) → first_of (compression_order n s) ≡ a → ReplyJustified (entries_of s) (given_unless a (stresses_of (entries_of s)))
-      go (Refused r) e = tt
-      go Accepted e =
+      go : (a : Answer) → first_of (compression_order n s) ≡ a → ReplyJustified (entries_of s) (reply_unless a (stresses_of (entries_of s)))
+      go (Err r) e = tt
+      go (Ok u) e =
           let judged-accepted = judged_answer n s ∙ (first_append (judge_order n s) (shell_uplift (entries_of s) ∷ []) e).0 in
-          let status = accepted_status n s refl refl (ap (λ (j : Judgement). j.answer) (sym (judged_completed_lem n s)) ∙ judged-accepted) in
-          stresses_justified (entries_of s) (valid s (status_is s refl status))
+          let given = accepted_entries n s refl refl (ap (λ (j : Judgement). j.answer) (sym (judged_completed_lem n s)) ∙ judged-accepted) in
+          stresses_justified (entries_of s) (valid s (complete_is s refl given))
 
   -- the further clauses of what answers as the definition does
-  pub compression_clauses : {r : Compression.Compression} → r ≡ shell_compression n s
+  pub compression_clauses : {r : Result Stresses Refusal} → r ≡ shell_compression n s
       → (r ≡ shell_compression n s) × ((compression_code r ≡ shell_compression_code n s) × ReplyJustified (entries_of s) r)
   compression_clauses e = (e, (ap compression_code e ∙ compression_code_lem n s, subst (ReplyJustified (entries_of s)) (sym e) reply_justified))

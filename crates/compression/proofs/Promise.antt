@@ -1,6 +1,7 @@
 -- What the promise on the allowed stress comes to for a tank whose argument is just 0.0640 (H 37,671, D 32,000, net plate 433), from the clause
 -- alone: a clause that says less, or nothing, no longer gives these numbers.
 -- Assumes nothing.
+use Rattle.std.specs.Prelude.{Ok}
 use mathlib.Core.Path.{◌≡◌}
 use mathlib.Core.List.{◌∷◌}
 use Prim.Native.Nat.{ℕ, ◌*◌, ◌≤◌}
@@ -18,7 +19,6 @@ use Rattle.entries.specs.declared.sheet.Course.{Course}
 use Rattle.sheet.specs.declared.complete.Entries.{Entries}
 use Rattle.compression.specs.Compression.{PrintedHelp, ReplyJustified}
 use Rattle.compression.specs.declared.question.Stresses.{Stresses}
-use Rattle.compression.specs.declared.question.Compression as Compression
 
 abbrev at_limit : Anchors → Entries
 at_limit a =
@@ -41,13 +41,13 @@ unfolding argument_exact
 printed_help z = (leb→le _ _ tt, leb→le _ _ tt)
 
 -- the printed equations give 12,366.6,
-pub self_anchored_at_limit : (v : Stresses) → ReplyJustified (at_limit no_anchors) (Compression.TheVariants.Given v) → v.allowed ≤ 12366
+pub self_anchored_at_limit : (v : Stresses) → ReplyJustified (at_limit no_anchors) (Ok v) → v.allowed ≤ 12366
 unfolding allowed_exact local_buckling
 self_anchored_at_limit v j =
     let f = allowed_exact just_above 32000 433 in
     (le-div_iff_mul-le {x = v.allowed} {y = f.num * 1} (lit< {m = 0} {n = f.den} tt)).1 (j.never_above just_above printed_help)
 
 -- and for an anchored tank 8,624.8
-pub anchored_at_limit : (v : Stresses) → ReplyJustified (at_limit (record { number = 6; circle = 32800; size = 8 })) (Compression.TheVariants.Given v) → v.allowed ≤ 8624
+pub anchored_at_limit : (v : Stresses) → ReplyJustified (at_limit (record { number = 6; circle = 32800; size = 8 })) (Ok v) → v.allowed ≤ 8624
 unfolding allowed_exact local_buckling
 anchored_at_limit v j = omega (arith, j.never_above (0 over 1) (λ z. absurd (let y : ◌≡◌ {A = ℕ} 6 0 = z in omega (arith, y))))

@@ -1,13 +1,10 @@
 -- "The example tank" of document 01 asked about its shell compression, anchored and with N = 0, by either method; where its edge just lifts; and
 -- a shell that does not hold.
-use Rattle.std.specs.Prelude.{Bool, true, false, List, [], ◌∷◌, ℕ, replicate}
+use Rattle.std.specs.Prelude.{Bool, true, false, List, [], ◌∷◌, ℕ, replicate, Some}
 use Rattle.fields.specs.Refusal.{plain}
 use Rattle.entries.specs.Sheet.{blank_course, no_anchors}
 use Rattle.entries.specs.declared.sheet.Anchors.{Anchors}
 use Rattle.entries.specs.declared.sheet.Course.{Course}
-use Rattle.entries.specs.declared.sheet.TankEntry as TankEntry
-use Rattle.entries.specs.declared.sheet.SiteEntry as SiteEntry
-use Rattle.entries.specs.declared.sheet.AnchorsEntry as AnchorsEntry
 use Rattle.entries.specs.declared.sheet.Sheet.{Sheet}
 use Rattle.reports.specs.Cases.{example, example_with, six_on}
 use Rattle.compression.specs.Compression.{CompressionCode, no_stresses, shell_compression, compression_code}
@@ -33,9 +30,9 @@ thin_with H c Ms a =
     let bottom : Course = record { width = 9601; plate = 188; allowance = c; stress = 15003; efficiency = 85 } in
     let top : Course = record { width = 9607; plate = 250; allowance = 17; stress = 15003; efficiency = 85 } in
     record {
-      tank = TankEntry.TheVariants.Filled (record { diameter = 14407; level = H; weight = 11003; plate = 253; allowance = 61; fy = 36001 });
-      site = SiteEntry.TheVariants.Filled (record { speed = 105; exposure = 109; importance = 115; vertical = 271; moment = Ms });
-      anchors = AnchorsEntry.TheVariants.Filled a;
+      tank = Some (record { diameter = 14407; level = H; weight = 11003; plate = 253; allowance = 61; fy = 36001 });
+      site = Some (record { speed = 105; exposure = 109; importance = 115; vertical = 271; moment = Ms });
+      anchors = Some a;
       courses = bottom ∷ top ∷ replicate 10 blank_course;
       count = 2;
     }

@@ -1,11 +1,11 @@
 -- Shell compression at the bottom course: document 02, S-6. A sheet and a method's number n; the reply is the stress, the allowed stress and
 -- whether it holds, or one refusal.
-use Rattle.std.specs.Prelude.{◌≡◌, Bool, true, false, cond, ◌&&◌, List, [], ◌∷◌, ◌++◌, ℕ, ◌-◌, leb, eqb, get_or}
+use Rattle.fields.specs.declared.refusal.Refusal.{Refusal}
+use Rattle.std.specs.Prelude.{◌≡◌, Bool, true, false, cond, ◌&&◌, List, [], ◌∷◌, ◌++◌, ℕ, ◌-◌, leb, eqb, get_or, Result, Ok, Err}
 use Rattle.exact.specs.Quotient.{Ratio, whole, AtLeast, AtMost}
 use Rattle.exact.specs.Fraction.{◌over◌, ◌≤ʳ◌}
-use Rattle.fields.specs.Order.{Condition, ◌when◌, first_of, reply_unless, first_code}
-use Rattle.fields.specs.Refusal.{plain, code_of}
-use Rattle.fields.specs.declared.answer.Answer.{Answer}
+use Rattle.std.specs.Result.{result_unwrap_or}
+use Rattle.fields.specs.Order.{Condition, ◌when◌, first_of, reply_unless, answer_code, first_code}
 use Rattle.fields.specs.declared.refusal.Code.{Code}
 use Rattle.fields.specs.declared.refusal.Refusal.TheVariants.{ShellUplift}
 use Rattle.stability.specs.Earthquake.{uplift_of}
@@ -25,7 +25,6 @@ use Rattle.reports.specs.Judging.{judge_order}
 use Rattle.reports.specs.declared.report.Standing.{Standing}
 use Rattle.reports.specs.declared.report.Standing.TheVariants.{SelfAnchored, Anchored}
 use Rattle.compression.specs.declared.question.Stresses.{Stresses}
-use Rattle.compression.specs.declared.question.Compression as Compression
 
 -- "the bottom course, net of allowance": its plate less its allowance
 abbrev pub net_plate : Entries → ℕ
@@ -77,19 +76,16 @@ stresses_of e =
 
 -- ---- THE REPLY
 
-abbrev pub given_unless : Answer → Stresses → Compression.Compression
-given_unless = reply_unless Compression.TheVariants.Given Compression.TheVariants.Refused
-
-unfoldable pub shell_compression : ℕ → Sheet → Compression.Compression
-shell_compression n s = given_unless (first_of (compression_order n s)) (stresses_of (entries_of s))
+unfoldable pub shell_compression : ℕ → Sheet → Result Stresses Refusal
+shell_compression n s = reply_unless (first_of (compression_order n s)) (stresses_of (entries_of s))
 
 -- what is left of it once the sheet is judged: by the report's way of standing
 abbrev pub uplifted : Standing → Bool
 uplifted (SelfAnchored checks) = lifts checks.uplift
 uplifted (Anchored checks) = false
 
-abbrev pub unless_uplifted : Standing → Entries → Compression.Compression
-unless_uplifted standing e = given_unless (first_of ((ShellUplift when uplifted standing) ∷ [])) (stresses_of e)
+abbrev pub unless_uplifted : Standing → Entries → Result Stresses Refusal
+unless_uplifted standing e = reply_unless (first_of ((ShellUplift when uplifted standing) ∷ [])) (stresses_of e)
 
 -- The code of each case of the reply: 0 and the figures, or the refusal's number and no figures.
 pub record CompressionCode : Type 0 where
@@ -99,9 +95,8 @@ pub record CompressionCode : Type 0 where
 abbrev pub no_stresses : Stresses
 no_stresses = record { stress = 0; allowed = 0; holds = false }
 
-abbrev pub compression_code : Compression.Compression → CompressionCode
-compression_code (Compression.TheVariants.Given v) = record { code = plain 0; stresses = v }
-compression_code (Compression.TheVariants.Refused r) = record { code = code_of r; stresses = no_stresses }
+abbrev pub compression_code : Result Stresses Refusal → CompressionCode
+compression_code y = record { code = answer_code y; stresses = result_unwrap_or y no_stresses }
 
 unfoldable pub shell_compression_code : ℕ → Sheet → CompressionCode
 shell_compression_code n s =
@@ -126,6 +121,6 @@ pub record StressesJustified (e : Entries) (v : Stresses) : Type 0 where
   pub never_above : (c : Ratio) → PrintedHelp e c → whole v.allowed ≤ʳ allowed_exact_on e c
   pub held : v.holds ≡ leb v.stress v.allowed
 
-abbrev pub ReplyJustified : Entries → Compression.Compression → Type 0
-ReplyJustified e (Compression.TheVariants.Given v) = StressesJustified e v
-ReplyJustified e (Compression.TheVariants.Refused r) = Unit {0}
+abbrev pub ReplyJustified : Entries → Result Stresses Refusal → Type 0
+ReplyJustified e (Ok v) = StressesJustified e v
+ReplyJustified e (Err r) = Unit {0}

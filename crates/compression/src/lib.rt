@@ -4,4 +4,4 @@
 
 mod question;
 
-pub use question::{Compression, Stresses, shell_compression};
+pub use question::{Stresses, shell_compression};

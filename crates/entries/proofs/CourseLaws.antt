@@ -7,12 +7,15 @@ use native.Mathlib.Numerals.{add-one}
 use native.Mathlib.Omega.{arith}
 use lib.ListN.{length, get_or, set, take, drop, take-append-drop}
 use lib.Seq.{take_all, take-suc, take-suc-set, take-take, get_or-take, length-take-le}
+use Rattle.std.proofs.lemmas.List.Sums.{sum_by-append, sum_by-cons}
 use Rattle.entries.specs.Sheet.{blank_course, height_of}
 use Rattle.entries.specs.declared.sheet.Course.{Course}
 
 pub height_append : (xs ys : List Course) → height_of (xs ++ ys) ≡ height_of xs + height_of ys
-height_append [] ys = omega arith
-height_append (x ∷ xs) ys = omega (arith, height_append xs ys)
+height_append xs ys = sum_by-append (λ (c : Course). c.width) xs ys
+
+pub height_cons : (c : Course) (cs : List Course) → height_of (c ∷ cs) ≡ c.width + height_of cs
+height_cons = sum_by-cons (λ (c : Course). c.width)
 
 -- one course more
 pub height_next : (cs : List Course) (i : ℕ) → i < length cs → height_of (take (i + 1) cs) ≡ height_of (take i cs) + (get_or cs i blank_course).width

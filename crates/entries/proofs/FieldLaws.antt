@@ -2,6 +2,7 @@
 -- the plate. Anchors: none, or a number of them in range, on a bolt circle at least as wide as the tank, of a size that is in
 -- the chart. And that what stands where nothing was stated has a flaw.
 -- Assumes nothing.
+use Rattle.std.specs.Prelude.{None, Ok}
 use mathlib.Core.Path.{◌≡◌, refl, sym, ◌∙◌, subst}
 use mathlib.Core.Bool.{Bool, true, false, not, ◌||◌}
 use mathlib.Core.List.{List, [], ◌∷◌, ◌++◌}
@@ -14,23 +15,19 @@ use Rattle.fields.specs.Range.{range, between, within, In}
 use Rattle.fields.specs.declared.refusal.Refusal.TheVariants.{OutOfRange, BadAnchors}
 use Rattle.fields.proofs.RangeLaws.{in_of_within, in_of_between, within_some}
 use Rattle.fields.specs.Order.{Condition, ◌when◌, first_of, clear, Figure, outside}
-use Rattle.fields.specs.declared.answer.Answer.TheVariants.{Accepted}
 use Rattle.fields.proofs.OrderLaws.{first_cons, first_append, clear_accepted}
 use Rattle.entries.specs.Sheet.{tank_fields, site_fields, anchor_fields, course_fields, allowance_too_large, bad_anchors, tank_flaws, site_flaws, anchor_flaws, course_flaws, tank_of, site_of, anchors_of}
 use Rattle.entries.specs.declared.sheet.Tank.{Tank}
 use Rattle.entries.specs.declared.sheet.Site.{Site}
 use Rattle.entries.specs.declared.sheet.Anchors.{Anchors}
 use Rattle.entries.specs.declared.sheet.Course.{Course}
-use Rattle.entries.specs.declared.sheet.TankEntry as TankEntry
-use Rattle.entries.specs.declared.sheet.SiteEntry as SiteEntry
-use Rattle.entries.specs.declared.sheet.AnchorsEntry as AnchorsEntry
 
 -- figures that pass the test of their fields
 abbrev pub Pass : List Figure → Type 0
 Pass [] = Unit {0}
 Pass (f ∷ fs) = (within (range f.field) f.value ≡ true) × Pass fs
 
-pub all_pass : (fs : List Figure) → first_of (outside fs) ≡ Accepted → Pass fs
+pub all_pass : (fs : List Figure) → first_of (outside fs) ≡ Ok tt → Pass fs
 all_pass [] e = tt
 all_pass (f ∷ fs) e =
     let o = first_cons (OutOfRange f.field when not (within (range f.field) f.value)) (outside fs) e in
@@ -132,8 +129,8 @@ anchors_in_lem D a h z =
     neither false y e = (refl, e)
 
 -- WHAT STANDS WHERE NOTHING WAS STATED HAS A FLAW
-pub blank_flawed : (T (clear (tank_flaws (tank_of TankEntry.TheVariants.Blank))) → ⊥)
-    × (T (clear (site_flaws (site_of SiteEntry.TheVariants.Blank))) → ⊥)
-    × ((D : ℕ) → T (clear (anchor_flaws D (anchors_of AnchorsEntry.TheVariants.Blank))) → ⊥)
+pub blank_flawed : (T (clear (tank_flaws (tank_of None))) → ⊥)
+    × (T (clear (site_flaws (site_of None))) → ⊥)
+    × ((D : ℕ) → T (clear (anchor_flaws D (anchors_of None))) → ⊥)
 unfolding within between clear tank_flaws site_flaws anchor_flaws
 blank_flawed = (λ h. h, λ h. h, λ D h. h)

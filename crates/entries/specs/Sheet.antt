@@ -1,6 +1,6 @@
 -- What a sheet holds, and what is wrong with a step's figures: document 01, "Fields and their ranges", "Filling in" and "Refusals that
 -- come from the input"; document 02, S-1.
-use Rattle.std.specs.Prelude.{Bool, not, cond, ◌||◌, List, [], ◌∷◌, ◌++◌, ℕ, ◌+◌, leb, ltb, eqb, replicate, take}
+use Rattle.std.specs.Prelude.{sum_by, get_or, Bool, not, cond, ◌||◌, List, [], ◌∷◌, ◌++◌, ℕ, ◌+◌, leb, ltb, eqb, replicate, take, Option, Some, None}
 use Rattle.fields.specs.Bolt.{in_chart}
 use Rattle.fields.specs.declared.refusal.Refusal.TheVariants.{AllowanceNotBelowPlate, BadAnchors, ShellTooHigh}
 use Rattle.fields.specs.Order.{Condition, ◌when◌, Figure, ◌is◌, values, outside}
@@ -8,9 +8,6 @@ use Rattle.entries.specs.declared.sheet.Tank.{Tank}
 use Rattle.entries.specs.declared.sheet.Site.{Site}
 use Rattle.entries.specs.declared.sheet.Anchors.{Anchors}
 use Rattle.entries.specs.declared.sheet.Course.{Course}
-use Rattle.entries.specs.declared.sheet.TankEntry as TankEntry
-use Rattle.entries.specs.declared.sheet.SiteEntry as SiteEntry
-use Rattle.entries.specs.declared.sheet.AnchorsEntry as AnchorsEntry
 use Rattle.entries.specs.declared.sheet.Sheet.{Sheet}
 
 -- The figures of each step with their fields: 1 to 6, 7 to 11, 12 to 14, 15 to 19.
@@ -41,6 +38,41 @@ anchor_figures a = values (anchor_fields a)
 abbrev pub course_figures : Course → List ℕ
 course_figures c = values (course_fields c)
 
+-- and back
+abbrev pub tank_with : List ℕ → Tank
+tank_with xs =
+    record {
+      diameter = get_or xs 0 0;
+      level = get_or xs 1 0;
+      weight = get_or xs 2 0;
+      plate = get_or xs 3 0;
+      allowance = get_or xs 4 0;
+      fy = get_or xs 5 0;
+    }
+
+abbrev pub site_with : List ℕ → Site
+site_with xs =
+    record {
+      speed = get_or xs 0 0;
+      exposure = get_or xs 1 0;
+      importance = get_or xs 2 0;
+      vertical = get_or xs 3 0;
+      moment = get_or xs 4 0;
+    }
+
+abbrev pub anchors_with : List ℕ → Anchors
+anchors_with xs = record { number = get_or xs 0 0; circle = get_or xs 1 0; size = get_or xs 2 0 }
+
+abbrev pub course_with : List ℕ → Course
+course_with xs =
+    record {
+      width = get_or xs 0 0;
+      plate = get_or xs 1 0;
+      allowance = get_or xs 2 0;
+      stress = get_or xs 3 0;
+      efficiency = get_or xs 4 0;
+    }
+
 -- N = 0 stated: a tank without anchors
 abbrev pub no_anchors : Anchors
 no_anchors = record { number = 0; circle = 0; size = 0 }
@@ -53,9 +85,9 @@ blank_course = record { width = 0; plate = 0; allowance = 0; stress = 0; efficie
 abbrev pub empty_sheet : Sheet
 empty_sheet =
     record {
-      tank = TankEntry.TheVariants.Blank;
-      site = SiteEntry.TheVariants.Blank;
-      anchors = AnchorsEntry.TheVariants.Blank;
+      tank = None;
+      site = None;
+      anchors = None;
       courses = replicate 12 blank_course;
       count = 0;
     }
@@ -65,22 +97,21 @@ abbrev pub held : Sheet → List Course
 held s = take s.count s.courses
 
 abbrev pub height_of : List Course → ℕ
-height_of [] = 0
-height_of (c ∷ cs) = c.width + height_of cs
+height_of cs = sum_by (λ (c : Course). c.width) cs
 
 -- The tank, the site and the anchors held. Where they are not stated, figures that no step accepts (`blank_flawed`), so that what was left
 -- out cannot pass for what was stated: zeros, and one anchor, since N = 0 is a statement. They stand in the entries beside a refusal.
-abbrev pub tank_of : TankEntry.TankEntry → Tank
-tank_of TankEntry.TheVariants.Blank = record { diameter = 0; level = 0; weight = 0; plate = 0; allowance = 0; fy = 0 }
-tank_of (TankEntry.TheVariants.Filled t) = t
+abbrev pub tank_of : Option Tank → Tank
+tank_of None = record { diameter = 0; level = 0; weight = 0; plate = 0; allowance = 0; fy = 0 }
+tank_of (Some t) = t
 
-abbrev pub site_of : SiteEntry.SiteEntry → Site
-site_of SiteEntry.TheVariants.Blank = record { speed = 0; exposure = 0; importance = 0; vertical = 0; moment = 0 }
-site_of (SiteEntry.TheVariants.Filled x) = x
+abbrev pub site_of : Option Site → Site
+site_of None = record { speed = 0; exposure = 0; importance = 0; vertical = 0; moment = 0 }
+site_of (Some x) = x
 
-abbrev pub anchors_of : AnchorsEntry.AnchorsEntry → Anchors
-anchors_of AnchorsEntry.TheVariants.Blank = record { number = 1; circle = 0; size = 0 }
-anchors_of (AnchorsEntry.TheVariants.Filled a) = a
+abbrev pub anchors_of : Option Anchors → Anchors
+anchors_of None = record { number = 1; circle = 0; size = 0 }
+anchors_of (Some a) = a
 
 -- 17: "allowance not less than plate (bottom or course)", so plate at most allowance
 abbrev pub allowance_too_large : ℕ → ℕ → Condition

@@ -5,7 +5,4 @@
 pub mod flaws;
 mod sheet;
 
-pub use sheet::{
-    Anchors, AnchorsEntry, Course, MOST_COURSES, MOST_HEIGHT, Sheet, Site, SiteEntry, Tank,
-    TankEntry,
-};
+pub use sheet::{Anchors, Course, Entry, MOST_COURSES, MOST_HEIGHT, Sheet, Site, Tank};

@@ -1,7 +1,7 @@
 // A sheet and what it holds (document 01, "Filling in"). All of it is public data: whoever hands in a sheet
 // may have built it by hand, which is what refusal 30 is for.
-ghost use Rattle.std.specs.Prelude.{◌≡◌};
-ghost use Rattle.entries.specs.Sheet.{blank_course, empty_sheet, tank_of, site_of, anchors_of, tank_figures, site_figures, anchor_figures, course_figures};
+ghost use Rattle.std.specs.Prelude.{◌≡◌, List, ℕ, refl};
+ghost use Rattle.entries.specs.Sheet.{blank_course, empty_sheet, tank_figures, site_figures, anchor_figures, course_figures, tank_with, site_with, anchors_with, course_with};
 
 // The slots for courses, and the greatest shell height Hs.
 pub const MOST_COURSES: usize = 12;
@@ -9,7 +9,7 @@ pub const MOST_COURSES: usize = 12;
 pub const MOST_HEIGHT: u64 = 76800;
 
 // Fields 1 to 6.
-#[derive(Clone, Copy)]
+#[derive(Clone, Copy, Debug, PartialEq, Eq)]
 pub struct Tank {
     pub diameter: u32,
     // The water level above the bottom.
@@ -23,7 +23,7 @@ pub struct Tank {
 }
 
 // Fields 7 to 11.
-#[derive(Clone, Copy)]
+#[derive(Clone, Copy, Debug, PartialEq, Eq)]
 pub struct Site {
     // The wind's speed V, Kz and I.
     pub speed: u32,
@@ -35,7 +35,7 @@ pub struct Site {
 }
 
 // Fields 12 to 14.
-#[derive(Clone, Copy)]
+#[derive(Clone, Copy, Debug, PartialEq, Eq)]
 pub struct Anchors {
     pub number: u32,
     // The diameter of the bolt circle, and the size of a bolt.
@@ -44,7 +44,7 @@ pub struct Anchors {
 }
 
 // Fields 15 to 19.
-#[derive(Clone, Copy)]
+#[derive(Clone, Copy, Debug, PartialEq, Eq)]
 pub struct Course {
     pub width: u32,
     pub plate: u32,
@@ -54,33 +54,149 @@ pub struct Course {
     pub efficiency: u32,
 }
 
-#[derive(Clone, Copy)]
-pub enum TankEntry {
-    Blank,
-    Filled(Tank),
-}
-
-#[derive(Clone, Copy)]
-pub enum SiteEntry {
-    Blank,
-    Filled(Site),
-}
-
-// Blank is not the same as N = 0 stated (document 02, S-1).
-#[derive(Clone, Copy)]
-pub enum AnchorsEntry {
-    Blank,
-    Filled(Anchors),
-}
-
-// The courses from the bottom up, `count` of them; the slots past them are blank.
-#[derive(Clone, Copy)]
+// What is stated, and the courses from the bottom up, `count` of them; the slots past them are blank (there is no heap).
+// No anchors are not the same as N = 0 stated (document 02, S-1).
+#[derive(Clone, Copy, Debug, PartialEq, Eq)]
 pub struct Sheet {
-    pub tank: TankEntry,
-    pub site: SiteEntry,
-    pub anchors: AnchorsEntry,
+    pub tank: Option<Tank>,
+    pub site: Option<Site>,
+    pub anchors: Option<Anchors>,
     pub courses: [Course; 12],
     pub count: usize,
+}
+
+// An entry by its figures, in the documents' order of the fields, which each of the four states for its own.
+pub trait Entry<const N: usize>: Copy {
+    ghost figures_of: { Self → List ℕ };
+
+    ghost entry_of: { List ℕ → Self };
+
+    fn figures(self) -> [u32; N]
+        ensures { result ≡ figures_of self };
+
+    fn with(figures: [u32; N]) -> Self
+        ensures { result ≡ entry_of figures.entry };
+
+    // No two entries have the same figures.
+    ghost restores: { (e : Self) → entry_of (figures_of e) ≡ e };
+}
+
+impl Entry<6> for Tank {
+    ghost figures_of = { tank_figures };
+
+    ghost entry_of = { tank_with };
+
+    ghost restores = { λ t. refl };
+
+    fn figures(self) -> [u32; 6] {
+        [
+            self.diameter,
+            self.level,
+            self.weight,
+            self.plate,
+            self.allowance,
+            self.fy,
+        ]
+    }
+
+    fn with(figures: [u32; 6]) -> Self
+        ensures { result ≡ tank_with figures }
+    {
+        let [diameter, level, weight, plate, allowance, fy] = figures;
+        Tank {
+            diameter,
+            level,
+            weight,
+            plate,
+            allowance,
+            fy,
+        }
+    }
+}
+
+impl Entry<5> for Site {
+    ghost figures_of = { site_figures };
+
+    ghost entry_of = { site_with };
+
+    ghost restores = { λ x. refl };
+
+    fn figures(self) -> [u32; 5] {
+        [
+            self.speed,
+            self.exposure,
+            self.importance,
+            self.vertical,
+            self.moment,
+        ]
+    }
+
+    fn with(figures: [u32; 5]) -> Self
+        ensures { result ≡ site_with figures }
+    {
+        let [speed, exposure, importance, vertical, moment] = figures;
+        Site {
+            speed,
+            exposure,
+            importance,
+            vertical,
+            moment,
+        }
+    }
+}
+
+impl Entry<3> for Anchors {
+    ghost figures_of = { anchor_figures };
+
+    ghost entry_of = { anchors_with };
+
+    ghost restores = { λ a. refl };
+
+    fn figures(self) -> [u32; 3] {
+        [self.number, self.circle, self.size]
+    }
+
+    fn with(figures: [u32; 3]) -> Self
+        ensures { result ≡ anchors_with figures }
+    {
+        let [number, circle, size] = figures;
+        Anchors {
+            number,
+            circle,
+            size,
+        }
+    }
+}
+
+impl Entry<5> for Course {
+    ghost figures_of = { course_figures };
+
+    ghost entry_of = { course_with };
+
+    ghost restores = { λ c. refl };
+
+    fn figures(self) -> [u32; 5] {
+        [
+            self.width,
+            self.plate,
+            self.allowance,
+            self.stress,
+            self.efficiency,
+        ]
+    }
+
+    fn with(figures: [u32; 5]) -> Self
+        ensures { result ≡ course_with figures }
+    {
+        let [width, plate, allowance, stress, efficiency] = figures;
+        Course {
+            width,
+            plate,
+            allowance,
+            stress,
+            efficiency,
+        }
+    }
 }
 
 impl Course {
@@ -96,106 +212,17 @@ impl Course {
             efficiency: 0,
         }
     }
-
-    pub fn figures(self) -> [u32; 5]
-        ensures { result ≡ course_figures self }
-    {
-        [
-            self.width,
-            self.plate,
-            self.allowance,
-            self.stress,
-            self.efficiency,
-        ]
-    }
-}
-
-impl Tank {
-    // Beside a refusal.
-    pub fn blank() -> Tank
-        ensures { result ≡ tank_of TankEntry.Blank }
-    {
-        Tank {
-            diameter: 0,
-            level: 0,
-            weight: 0,
-            plate: 0,
-            allowance: 0,
-            fy: 0,
-        }
-    }
-
-    pub fn figures(self) -> [u32; 6]
-        ensures { result ≡ tank_figures self }
-    {
-        [
-            self.diameter,
-            self.level,
-            self.weight,
-            self.plate,
-            self.allowance,
-            self.fy,
-        ]
-    }
-}
-
-impl Site {
-    // Beside a refusal.
-    pub fn blank() -> Site
-        ensures { result ≡ site_of SiteEntry.Blank }
-    {
-        Site {
-            speed: 0,
-            exposure: 0,
-            importance: 0,
-            vertical: 0,
-            moment: 0,
-        }
-    }
-
-    pub fn figures(self) -> [u32; 5]
-        ensures { result ≡ site_figures self }
-    {
-        [
-            self.speed,
-            self.exposure,
-            self.importance,
-            self.vertical,
-            self.moment,
-        ]
-    }
-}
-
-impl Anchors {
-    // Beside a refusal. Not N = 0, which is a statement.
-    pub fn blank() -> Anchors
-        ensures { result ≡ anchors_of AnchorsEntry.Blank }
-    {
-        Anchors {
-            number: 1,
-            circle: 0,
-            size: 0,
-        }
-    }
-
-    pub fn figures(self) -> [u32; 3]
-        ensures { result ≡ anchor_figures self }
-    {
-        [self.number, self.circle, self.size]
-    }
 }
 
 impl Sheet {
     pub fn empty() -> Sheet
         ensures { result ≡ empty_sheet }
     {
-        let blank = Course::blank();
-        let courses = [blank; 12];
         Sheet {
-            tank: TankEntry::Blank,
-            site: SiteEntry::Blank,
-            anchors: AnchorsEntry::Blank,
-            courses,
+            tank: None,
+            site: None,
+            anchors: None,
+            courses: [Course::blank(); MOST_COURSES],
             count: 0,
         }
     }

@@ -1,11 +1,12 @@
 -- Order of exact fractions, and what keeps it.
 -- Assumes nothing.
-use mathlib.Core.Path.{◌≡◌, refl}
+use mathlib.Core.Path.{◌≡◌}
 use mathlib.Core.Bool.{true, false}
-use Prim.Native.Nat.{ℕ, zero, suc, ◌*◌, ◌^◌, ◌<◌}
-use native.Mathlib.Nat.{le_of_mul-le-mul_right, le_refl, lt_of_not-le, mul-le-mul, mul-le-mul_left, mul-le-mul_right, not-le_of_lt, pow-le-pow_left, pow-lt-pow_left, pow-suc, pow-zero}
+use Prim.Native.Nat.{ℕ, ◌*◌, ◌<◌}
+use native.Mathlib.Nat.{le_of_mul-le-mul_right, le_refl, lt_of_not-le, mul-le-mul, mul-le-mul_left, mul-le-mul_right, not-le_of_lt, pow-le-pow_left, pow-lt-pow_left}
 use native.Mathlib.Decide.{dec_le}
 use native.Mathlib.Omega.{arith}
+use Rattle.std.proofs.lemmas.Nat.{mul-pow}
 use borrow.Author.Tests.{le-leb, lt-leb}
 use Rattle.exact.specs.Quotient.{Ratio, plus}
 use Rattle.exact.specs.Fraction.{times, divided_by, power, ◌≤ʳ◌, at_most}
@@ -33,14 +34,10 @@ module _ (k f g : Ratio) (le : f ≤ʳ g) where
   pub divided_le : divided_by f k ≤ʳ divided_by g k
   divided_le = omega (arith, mul-le-mul_left (k.num * k.den) le)
 
--- Powers: of a product, of the larger fraction, and back.
-mul_pow : (a b n : ℕ) → (a * b) ^ n ≡ a ^ n * b ^ n
-mul_pow a b zero = rw (pow-zero (a * b), pow-zero a, pow-zero b) refl
-mul_pow a b (suc n) = rw (pow-suc (a * b) n, pow-suc a n, pow-suc b n, mul_pow a b n) (omega arith)
-
+-- Powers: of the larger fraction, and back.
 module _ (n : ℕ) (f g : Ratio) where
   pub power_le : f ≤ʳ g → power f n ≤ʳ power g n
-  power_le le = rw (← mul_pow f.num g.den n, ← mul_pow g.num f.den n) (pow-le-pow_left le n)
+  power_le le = rw (← mul-pow f.num g.den n, ← mul-pow g.num f.den n) (pow-le-pow_left le n)
 
   pub le_of_power : 0 < n → power f n ≤ʳ power g n → f ≤ʳ g
   le_of_power p le = decided (dec_le (f.num * g.den) (g.num * f.den))
@@ -49,4 +46,4 @@ module _ (n : ℕ) (f g : Ratio) where
       decided (yes h) = h
       decided (no h) =
           absurd (not-le_of_lt (pow-lt-pow_left {n = n} (lt_of_not-le h) (λ e. omega (arith, e)))
-          (rw (mul_pow f.num g.den n, mul_pow g.num f.den n) le))
+          (rw (mul-pow f.num g.den n, mul-pow g.num f.den n) le))

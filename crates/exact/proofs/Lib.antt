@@ -3,8 +3,9 @@ pub mod QuotientLaws
 pub mod SignedLaws
 pub mod GreatestLaws
 pub mod RootLaws
-pub mod RatioLaws
-pub mod FractionLaws
 pub mod WideLaws
+pub mod RatioLaws
+pub mod FloatLaws
+pub mod FractionLaws
 pub mod Products
 pub mod Table

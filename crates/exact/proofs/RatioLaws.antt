@@ -3,15 +3,16 @@
 use mathlib.Core.Path.{◌≡◌, ap, ◌∙◌, subst}
 use mathlib.Core.Bool.{false}
 use Prim.Native.Nat.{ℕ, ◌*◌, ◌^◌, ◌≤◌, ◌<◌}
-use native.Mathlib.Nat.{lt_irrefl, mul-pos, zero-mul}
+use native.Mathlib.Nat.{le_of_lt, lt_irrefl, mul-pos, zero-mul}
 use native.Mathlib.Omega.{arith}
 use lib.IntN.{pos}
-use lib.Ieee.{Float, nan, inf, fin, Format, prec, up, down, round, div, of_int}
+use lib.Ieee.{Float, nan, inf, fin, Format, binary64, prec, up, down, round, div, of_int}
 use lib.Ieee.Back.{round_whole}
 use lib.Ieee.Exact.{HasValue}
 use lib.Ieee.Fits.{down_pos}
 use lib.Ieee.Scale.{round_same}
 use borrow.Author.Tests.{ne_eqb}
+use Rattle.exact.specs.Sides.{Sides}
 
 -- with X / p for a and Y / q for b
 cross : (X Y a b p q : ℕ) → X * 1 ≡ a * p → Y * 1 ≡ b * q → X * q * b ≡ a * (Y * p)
@@ -39,3 +40,7 @@ pub whole_quotient : (f : Format) (a b : ℕ) → 0 < b → a ≤ 2 ^ prec f →
     → div f (of_int f (pos a)) (of_int f (pos b)) ≡ round f false a b
 unfolding of_int
 whole_quotient f a b p h k = quotient f (round f false a 1) (round f false b 1) a b p (round_whole f false a h) (round_whole f false b k)
+
+-- of two sides that an f64 holds
+pub sides_quotient : (a b : ℕ) → Sides a b → div binary64 (of_int binary64 (pos a)) (of_int binary64 (pos b)) ≡ round binary64 false a b
+sides_quotient a b s = whole_quotient binary64 a b s.capacity_above (le_of_lt s.need_exact) (le_of_lt s.capacity_exact)

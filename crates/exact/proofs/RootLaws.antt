@@ -1,14 +1,22 @@
 -- The root found bit by bit is the greatest: its square is at most the number, and the next one's is above it.
 -- Assumes nothing.
-use mathlib.Core.Path.{◌≡◌, refl}
-use Prim.Native.Nat.{ℕ, ◌+◌, ◌*◌, ◌/◌, ◌^◌, ◌≤◌, ◌<◌}
-use native.Mathlib.Nat.{div-le_self, le-div_iff_mul-le, le_trans, lt_of_le_of_lt, lt_of_not-le, mul-le-mul, not-le_of_lt}
+use mathlib.Core.Path.{◌≡◌, refl, sym, ap, subst, ◌∙◌}
+use Prim.Native.Nat.{ℕ, ◌+◌, ◌-◌, ◌*◌, ◌/◌, ◌^◌, ◌≤◌, ◌<◌}
+use native.Mathlib.Nat.{div-le_self, le-div_iff_mul-le, le_trans, lt_of_le_of_lt, lt_of_not-le, mul-le-mul, not-le_of_lt, two-pow-succ}
 use native.Mathlib.Decide.{dec_le}
 use native.Mathlib.Omega.{arith}
 use lib.Dec.{not_T, le→leb, leb→le}
 use Rattle.exact.specs.Greatest.{Greatest}
 use Rattle.exact.specs.Root.{square_within, root_of}
-use Rattle.exact.proofs.GreatestLaws.{greatest_found}
+use Rattle.exact.proofs.GreatestLaws.{greatest_found, greatest_unique}
+
+-- of the smaller square the smaller root
+root_le : (n r : ℕ) → n * n < (r + 1) * (r + 1) → n ≤ r
+root_le n r l = within (dec_le n r)
+  where
+    within : Dec (n ≤ r) → n ≤ r
+    within (yes h) = h
+    within (no f) = let h : r + 1 ≤ n = omega (arith, lt_of_not-le f) in absurd (not-le_of_lt l (mul-le-mul h h))
 
 module _ (factor most : ℕ) (h : 0 < factor) (fits : most < 2 ^ 64) where
   abbrev s : ℕ
@@ -20,6 +28,12 @@ module _ (factor most : ℕ) (h : 0 < factor) (fits : most < 2 ^ 64) where
       greatest_found 32 (square_within s) (λ m n l t. le→leb (m * m) s (le_trans (mul-le-mul l l) (leb→le (n * n) s t)))
       (le→leb 0 s (omega arith))
       (not_T (square_within s (2 ^ 32)) (λ t. not-le_of_lt (lt_of_le_of_lt (div-le_self most factor) fits) (leb→le (2 ^ 32 * 2 ^ 32) s t)))
+
+  -- A number whose square is within s and whose successor's is not is the greatest.
+  pub root_unique : (r : ℕ) → r * r ≤ s → s < (r + 1) * (r + 1) → r ≡ root_of factor most
+  root_unique r l m =
+      greatest_unique (square_within s) r (root_of factor most)
+      (record { fits = le→leb (r * r) s l; most = λ n t. root_le n r (lt_of_le_of_lt (leb→le (n * n) s t) m) }) root_is
 
   -- factor * n * n is at most most exactly when n * n is at most the quotient rounded down
   pub root_safe : factor * root_of factor most * root_of factor most ≤ most
@@ -39,6 +53,15 @@ module _ (factor most : ℕ) (h : 0 < factor) (fits : most < 2 ^ 64) where
       above : Dec (factor * (r + 1) * (r + 1) ≤ most) → most < factor * (r + 1) * (r + 1)
       above (yes k) = absurd (omega (arith, root_greatest (r + 1) k))
       above (no f) = lt_of_not-le f
+
+pub halves : (k : ℕ) → 0 < k → 2 ^ (k - 1) + 2 ^ (k - 1) ≡ 2 ^ k
+halves k h = sym (ap (λ (x : ℕ). 2 ^ x) (omega arith) ∙ two-pow-succ (k - 1))
+
+-- what the code needs: a bit that is tried is half of the range that is left
+pub bit_tried : (s n k : ℕ) → 0 < k → s < (n + 2 ^ k) * (n + 2 ^ k) → s < (n + 2 ^ (k - 1) + 2 ^ (k - 1)) * (n + 2 ^ (k - 1) + 2 ^ (k - 1))
+bit_tried s n k h l = subst (λ (x : ℕ). s < x * x) (omega (arith, halves k h)) l
+
+pub ruleset root_laws = (root_unique, halves, bit_tried)
 
 -- the definition computes by bits, at the size that document 01 has
 computes : root_of 12000000 404416800000000000 ≡ 183579

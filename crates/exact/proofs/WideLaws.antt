@@ -1,4 +1,4 @@
--- Products and quotients in two parts, over any base B.
+-- Products and quotients in two parts, over any base B: what a machine does that multiplies and divides no 128 bits.
 -- Assumes nothing.
 use mathlib.Core.Path.{◌≡◌, sym, ap, ◌∙◌}
 use Prim.Native.Nat.{ℕ, ◌+◌, ◌*◌, ◌/◌, ◌%◌, ◌<◌}

@@ -3,4 +3,3 @@ pub mod Fraction
 pub mod Greatest
 pub mod Root
 pub mod Sides
-pub mod Wide

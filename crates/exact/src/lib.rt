@@ -10,8 +10,8 @@ mod sign;
 mod wide;
 
 pub use float::bits;
-pub use quotient::{down, up, up_signed};
+pub use quotient::{Unsigned, down, up, up_signed};
 pub use ratio::nearest;
 pub use root::greatest_root;
 pub use sign::{magnitude, positive_part};
-pub use wide::Wide;
+pub use wide::product;

@@ -6,6 +6,7 @@ ghost use Rattle.exact.specs.Sides.{Sides};
 
 // The f64 nearest to need / capacity, ties to even: both sides are exact as f64, so the one division
 // rounds once.
+#[tactic(auto, using(crate::proofs::RatioLaws::sides_quotient))]
 pub fn nearest(need: u64, capacity: u64) -> f64
     requires { Sides need capacity }
     ensures { result ≡ round binary64 false need capacity }

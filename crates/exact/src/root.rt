@@ -1,19 +1,18 @@
-// The greatest whole root, bit by bit, with no float.
+// The greatest whole root, bit by bit, with no float (by the library's `isqrt` a sheet misses the bar of speed).
 ghost use Rattle.std.specs.Prelude.{◌≡◌, ◌<◌};
 ghost use Rattle.exact.specs.Root.{root_of};
 
 // The greatest n with factor * n * n at most most. That is the greatest n with n * n at most
-// most / factor, whose bits are tried from the highest down: 32 turns, since n is below 2 to the 32.
+// most / factor, whose bits are tried from the highest down: n is below 2 to the 32.
+#[tactic(auto, using(crate::proofs::RootLaws::root_laws))]
 pub fn greatest_root(factor: u64, most: u64) -> u64
     requires { 0 < factor }
     ensures { result ≡ root_of factor most }
 {
     let square = most / factor;
     let mut n: u64 = 0;
-    let mut k: u64 = 32;
-    while 0 < k {
-        k -= 1;
-        let more = n + (1u64 << k);
+    for k in (0u32..32).rev() {
+        let more = n + (1 << k);
         if more * more <= square {
             n = more;
         }

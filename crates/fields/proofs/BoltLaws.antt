@@ -1,6 +1,6 @@
 -- A size that is in the chart has a stress area above 0, any other 0, and no size has more than 2,500.
 -- Assumes nothing.
-use mathlib.Core.Path.{◌≡◌, refl, sym, subst}
+use mathlib.Core.Path.{◌≡◌, refl, sym, ap, subst}
 use mathlib.Core.Bool.{Bool, true, false, not, cond, ◌&&◌, ◌||◌}
 use mathlib.Core.List.{List, [], ◌∷◌}
 use Prim.Native.Nat.{ℕ, ◌≤◌, ◌<◌}
@@ -8,6 +8,7 @@ use native.Mathlib.Omega.{arith}
 use lib.Dec.{T, leb, ltb, eqb, leb→le, ltb→lt}
 use mir.Facts.{and_yes}
 use borrow.Author.Tests.{eq-eqb, ne_eqb}
+use Rattle.std.specs.Prelude.{Option, Some, None, SomeIff}
 use Rattle.fields.specs.Bolt.{Bolt, chart, area_in, size_in, in_chart, stress_area}
 
 -- the test of one bolt, an area from 1 to 2,500, and of all
@@ -58,3 +59,8 @@ stress_area_none d = go (size_in chart d) refl
 pub stress_area_most : (d : ℕ) → stress_area d ≤ 2500
 unfolding stress_area
 stress_area_most d = most chart d tt
+
+-- the area that the chart gives of a size that it has
+pub charted : {o : Option ℕ} {P : Type 0} {v : ℕ} → SomeIff o P v → P → o ≡ Some v
+charted {o = None} h p = absurd (h p)
+charted {o = Some a} h p = ap Some h.1

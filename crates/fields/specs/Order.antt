@@ -1,13 +1,12 @@
 -- Orders of refusals, as data: document 01, "Order", and the answers of document 02. An order is a list of refusals with their conditions,
 -- as the documents list them; the answer is the first whose condition applies.
-use Rattle.std.specs.Prelude.{◌≡◌, Bool, true, false, not, cond, List, [], ◌∷◌, ℕ, ◌<◌, length, get_or}
+use Rattle.std.specs.Prelude.{◌≡◌, Bool, true, false, not, cond, List, [], ◌∷◌, ℕ, ◌<◌, length, get_or, Result, Ok, Err}
+use Rattle.std.specs.Result.{result_and}
 use Rattle.fields.specs.Range.{range, within}
 use Rattle.fields.specs.Refusal.{plain, code_of}
 use Rattle.fields.specs.declared.refusal.Code.{Code}
 use Rattle.fields.specs.declared.refusal.Refusal.{Refusal}
 use Rattle.fields.specs.declared.refusal.Refusal.TheVariants.{OutOfRange, Unreachable}
-use Rattle.fields.specs.declared.answer.Answer.{Answer}
-use Rattle.fields.specs.declared.answer.Answer.TheVariants.{Accepted, Refused}
 
 pub record Condition : Type 0 where
   pub refusal : Refusal
@@ -17,22 +16,17 @@ infix 20 ◌when◌
 abbrev pub ◌when◌ : Refusal → Bool → Condition
 r when b = record { refusal = r; applies = b }
 
+-- accepted, or the refusal
+abbrev pub Answer : Type 0
+Answer = Result (Unit {0}) Refusal
+
 abbrev pub first_of : List Condition → Answer
-first_of [] = Accepted
-first_of (c ∷ cs) = cond c.applies (Refused c.refusal) (first_of cs)
-
--- the answer of a part of an order, and of the part or the one condition after it
-abbrev pub and_then : Answer → Answer → Answer
-and_then Accepted later = later
-and_then (Refused r) later = Refused r
-
-abbrev pub or_else : Answer → Condition → Answer
-or_else a c = and_then a (cond c.applies (Refused c.refusal) Accepted)
+first_of [] = Ok tt
+first_of (c ∷ cs) = cond c.applies (Err c.refusal) (first_of cs)
 
 -- a reply that an order decides: a value, or the refusal
-abbrev pub reply_unless : {A X : Type 0} → (A → X) → (Refusal → X) → Answer → A → X
-reply_unless given refused Accepted v = given v
-reply_unless given refused (Refused r) v = refused r
+abbrev pub reply_unless : {A : Type 0} → Answer → A → Result A Refusal
+reply_unless a v = result_and a (Ok v)
 
 -- The law of every order (`first_exactly`): the answer is the refusal r exactly where some place of the order has r, its condition
 -- applies, and none before it does.
@@ -48,8 +42,8 @@ pub record First (cs : List Condition) (r : Refusal) : Type 0 where
 
 -- whether an answer is no refusal, and so whether no condition of an order applies
 abbrev pub accepts : Answer → Bool
-accepts Accepted = true
-accepts (Refused r) = false
+accepts (Ok u) = true
+accepts (Err r) = false
 
 unfoldable pub clear : List Condition → Bool
 clear cs = accepts (first_of cs)
@@ -72,10 +66,10 @@ abbrev pub values : List Figure → List ℕ
 values [] = []
 values (f ∷ fs) = f.value ∷ values fs
 
--- The code of each case of an answer: 0 where it was accepted, or the refusal's number and field; and so for an order.
-abbrev pub answer_code : Answer → Code
-answer_code Accepted = plain 0
-answer_code (Refused r) = code_of r
+-- The code of each case of a reply: 0 where it was accepted, or the refusal's number and field; and so for an order.
+abbrev pub answer_code : {A : Type 0} → Result A Refusal → Code
+answer_code (Ok v) = plain 0
+answer_code (Err r) = code_of r
 
 abbrev pub first_code : List Condition → Code
 first_code [] = plain 0

@@ -51,7 +51,8 @@ between r x = leb r.least x && leb x r.greatest
 unfoldable pub within : Range → ℕ → Bool
 within r x = (r.or_zero && eqb x 0) || between r x
 
--- The figure x of field k, between the ends of its range: what a rule asks of it. (For N that leaves 0 out, which the rules of
+-- The figure x of field k, between the ends of its range: what a rule asks of it. A clause, and no type of figures: the fields of a forged
+-- sheet hold any number, and each definition would have to take its figures apart. (For N that leaves 0 out, which the rules of
 -- anchors do not meet.)
 abbrev pub In : ℕ → ℕ → Type 0
 In k x = ((range k).least ≤ x) × (x ≤ (range k).greatest)

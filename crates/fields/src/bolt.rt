@@ -1,22 +1,23 @@
 // The bolt chart (document 01, "Anchored").
-ghost use Rattle.std.specs.Prelude.{◌≡◌};
-ghost use Rattle.fields.specs.Bolt.{stress_area};
+ghost use Rattle.std.specs.Prelude.{T, SomeIff};
+ghost use Rattle.fields.specs.Bolt.{in_chart, stress_area};
 
 // The tensile stress area, in thousandths of a square inch, of a bolt of this many eighths of an
-// inch; 0 for a size that the chart does not have.
-pub fn stress_area(size: u32) -> u32
-    ensures { result ≡ stress_area size }
+// inch, for a size that the chart has.
+#[tactic(auto, unfolding(crate::specs::Bolt::in_chart, crate::specs::Bolt::stress_area))]
+pub fn stress_area(size: u32) -> Option<u32>
+    ensures { SomeIff result (T (in_chart size)) (stress_area size) }
 {
     match size {
-        6 => 334,
-        7 => 462,
-        8 => 606,
-        9 => 763,
-        10 => 969,
-        11 => 1155,
-        12 => 1405,
-        14 => 1900,
-        16 => 2500,
-        _ => 0,
+        6 => Some(334),
+        7 => Some(462),
+        8 => Some(606),
+        9 => Some(763),
+        10 => Some(969),
+        11 => Some(1155),
+        12 => Some(1405),
+        14 => Some(1900),
+        16 => Some(2500),
+        _ => None,
     }
 }

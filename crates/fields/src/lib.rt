@@ -1,13 +1,10 @@
-// What the crates above share, with nothing of a sheet: the fields' ranges, the bolt chart, the refusals and
-// what their orders answer.
+// What the crates above share, with nothing of a sheet: the fields' ranges, the bolt chart, and the refusals.
 #![tactic(auto)]
 
-mod answer;
 mod bolt;
 mod range;
 mod refusal;
 
-pub use answer::{Answer, or_else};
 pub use bolt::stress_area;
 pub use range::in_range;
 pub use refusal::{Code, Refusal};

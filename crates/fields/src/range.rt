@@ -3,20 +3,34 @@ ghost use Rattle.std.specs.Prelude.{◌≡◌};
 ghost use Rattle.fields.specs.Range.{range, within, between};
 
 // The ends of each field's range, by the field's number; place 0 stands for no field, and is empty.
-const LEAST: [u32; 20] = [
-    1, 12000, 1200, 1, 100, 0, 30000, 60, 50, 100, 0, 0, 6, 0, 0, 1200, 100, 0, 10000, 50,
-];
-
-const GREATEST: [u32; 20] = [
-    0, 240000, 76800, 10000000, 500, 250, 50000, 150, 150, 125, 500, 1000000000, 200, 300000, 16,
-    14400, 2000, 250, 40000, 100,
+const RANGES: [(u32, u32); 20] = [
+    (1, 0),
+    (12000, 240000),
+    (1200, 76800),
+    (1, 10000000),
+    (100, 500),
+    (0, 250),
+    (30000, 50000),
+    (60, 150),
+    (50, 150),
+    (100, 125),
+    (0, 500),
+    (0, 1000000000),
+    (6, 200),
+    (0, 300000),
+    (0, 16),
+    (1200, 14400),
+    (100, 2000),
+    (0, 250),
+    (10000, 40000),
+    (50, 100),
 ];
 
 // The one field that may also be 0: N, the number of anchors.
 const ANCHORS: u32 = 12;
 
-// Whether a figure is in the range of the field with this number. A number that is no field's has
-// an empty range.
+// Whether a figure is in the range of the field with this number, as the documents have it and 16 gives it. A number
+// that is no field's has an empty range.
 pub fn in_range(field: u32, figure: u32) -> bool
     ensures { result ≡ within (range field) figure }
 {
@@ -29,19 +43,12 @@ pub fn in_range(field: u32, figure: u32) -> bool
     in_span(field, figure)
 }
 
-// Whether a figure is between the ends of the field's range.
+// Whether a figure is between the ends of the field's range. (A usize is not From a u32.)
 fn in_span(field: u32, figure: u32) -> bool
     ensures { result ≡ between (range field) figure }
 {
-    if 19 < field {
+    let Some(&(least, greatest)) = RANGES.get(field as usize) else {
         return false;
-    }
-    let k = field as usize;
-    if figure < LEAST[k] {
-        return false;
-    }
-    if GREATEST[k] < figure {
-        return false;
-    }
-    true
+    };
+    least <= figure && figure <= greatest
 }

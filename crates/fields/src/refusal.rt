@@ -3,7 +3,7 @@
 ghost use Rattle.std.specs.Prelude.{◌≡◌};
 ghost use Rattle.fields.specs.Refusal.{code_of, plain};
 
-#[derive(Clone, Copy)]
+#[derive(Clone, Copy, Debug, PartialEq, Eq)]
 pub enum Refusal {
     TooFewBytes,
     TooManyBytes,
@@ -31,8 +31,9 @@ pub enum Refusal {
     ShellUplift,
 }
 
-// A refusal as the documents have it: its number, and the field that it gives, or 0 where it gives none.
-#[derive(Clone, Copy)]
+// A refusal as the documents have it: its number, and the field that it gives, or 0 where it gives none (no Option: the
+// numbers are what is printed and compared).
+#[derive(Clone, Copy, Debug, PartialEq, Eq)]
 pub struct Code {
     pub number: u32,
     pub field: u32,

@@ -1,7 +1,8 @@
 -- The laws of ground motion, stated once over the chart.
 -- Assumes nothing.
+use Rattle.std.specs.Prelude.{Result, Ok, Err}
 use mathlib.Core.Path.{◌≡◌, refl, sym, ap, ◌∙◌, subst}
-use mathlib.Core.Bool.{Bool, false, cond}
+use mathlib.Core.Bool.{Bool, false, cond, true}
 use mathlib.Core.List.{[], ◌∷◌}
 use mathlib.Core.Logic.{◌↔◌}
 use Prim.Native.Nat.{ℕ, suc, ◌+◌, ◌-◌, ◌*◌, ◌/◌, ◌≤◌, ◌<◌}
@@ -9,21 +10,24 @@ use native.Mathlib.Nat.{mul-div_cancel}
 use native.Mathlib.Omega.{arith}
 use lib.Dec.{T, leb, ltb, eqb, leb→le}
 use lib.ListN.{length}
-use borrow.Author.Tests.{leb-true, ltb-false, not-false}
+use borrow.Author.Tests.{leb-true, ltb-false, not-false, lt-ltb, le-ltb}
 use Rattle.lists.proofs.BoolLaws.{both_hold, both_fail}
 use Rattle.exact.proofs.Table.{every, at_each}
 use Rattle.exact.proofs.QuotientLaws.{up_least, rounded_up}
-use Rattle.fields.specs.Order.{first_of, answer_code, codes, at, First}
+use Rattle.fields.specs.declared.refusal.Refusal.TheVariants.{FigureOutOfRange, BadSiteClass}
+use Rattle.fields.specs.Order.{Answer, first_of, answer_code, codes, at, First, reply_unless}
 use Rattle.fields.specs.Refusal.{plain}
-use Rattle.fields.specs.declared.answer.Answer.{Answer}
-use Rattle.fields.specs.declared.answer.Answer.TheVariants.{Accepted, Refused}
 use Rattle.fields.specs.declared.refusal.Code.{Code}
 use Rattle.fields.specs.declared.refusal.Refusal.{Refusal}
-use Rattle.fields.proofs.OrderLaws.{first_cons, first_code_lem, Replies, reply_refused_exactly, reply_given_exactly}
+use Rattle.fields.proofs.OrderLaws.{first_cons, first_code_lem, reply_refused_exactly, reply_given_exactly}
 use Rattle.fields.proofs.RefusalLaws.{never_zero}
 use Rattle.ground.specs.Chart.{Chart, fa, fv, row_of, interpolated, coefficient_of}
-use Rattle.ground.specs.Motion.{is_class, most_mapped, design_exact, over, design_of, sds_den, sd1_den, sds_of, sd1_of, vertical_exact, vertical_of, values_of, other_class, too_large, motion_order, given_unless, ground_motion, no_values, motion_code, ground_motion_code, WithoutLoss, greatest, ValuesJustified, ReplyJustified}
-use Rattle.ground.specs.declared.motion.GroundMotion as GroundMotion
+use Rattle.std.proofs.lemmas.Result.{MatchResult-at_ok, MatchResult-at_err}
+use Rattle.ground.specs.declared.motion.DesignValues.{DesignValues}
+use Rattle.ground.specs.declared.class.SiteClass.{SiteClass}
+use Rattle.ground.specs.declared.class.SiteClass.TheVariants.{A, B, C, D, E}
+use Rattle.ground.specs.Class.{is_class, letter_of, Classed}
+use Rattle.ground.specs.Motion.{most_mapped, design_exact, over, design_of, sds_den, sd1_den, sds_of, sd1_of, vertical_exact, vertical_of, values_of, other_class, too_large, motion_order, ground_motion, no_values, motion_code, ground_motion_code, WithoutLoss, greatest, ValuesJustified, ReplyJustified}
 use Rattle.ground.proofs.ChartLaws.{interpolates, interpolation_unique}
 
 -- ---- the figures
@@ -110,42 +114,38 @@ worked_out class Ss S1 e f g = rw (g, e, f, sds_product class Ss, sd1_product cl
 
 -- ---- the answer
 
--- values are no refusal
-replies : Replies GroundMotion.TheVariants.Given GroundMotion.TheVariants.Refused
-replies = record { apart = λ e. absurd (let z : ◌≡◌ {A = ℕ} 0 1 = cc in omega arith); same = λ e. cc }
-
 module _ (class Ss S1 : ℕ) where
   -- the documents' numbers, in their order
   pub motion_order_lem : codes (motion_order class Ss S1) ≡ plain 41 ∷ plain 40 ∷ []
   motion_order_lem = refl
 
   -- each exactly under its condition with none before it
-  pub motion_exactly : (r : Refusal) → (ground_motion class Ss S1 ≡ GroundMotion.TheVariants.Refused r) ↔ First (motion_order class Ss S1) r
+  pub motion_exactly : (r : Refusal) → (ground_motion class Ss S1 ≡ Err r) ↔ First (motion_order class Ss S1) r
   unfolding ground_motion
-  motion_exactly = reply_refused_exactly replies (values_of class Ss S1) (motion_order class Ss S1)
+  motion_exactly = reply_refused_exactly (values_of class Ss S1) (motion_order class Ss S1)
 
   -- and values exactly where no condition applies
-  pub given_exactly : (ground_motion class Ss S1 ≡ GroundMotion.TheVariants.Given (values_of class Ss S1))
+  pub given_exactly : (ground_motion class Ss S1 ≡ Ok (values_of class Ss S1))
       ↔ ((j : ℕ) → j < length (motion_order class Ss S1) → (at (motion_order class Ss S1) j).applies ≡ false)
   unfolding ground_motion
-  given_exactly = reply_given_exactly replies (values_of class Ss S1) (motion_order class Ss S1)
+  given_exactly = reply_given_exactly (values_of class Ss S1) (motion_order class Ss S1)
 
   motion_code_lem : motion_code (ground_motion class Ss S1) ≡ ground_motion_code class Ss S1
   unfolding ground_motion ground_motion_code
   motion_code_lem = go (first_of (motion_order class Ss S1)) (first_code_lem (motion_order class Ss S1))
     where
       go : (a : Answer) {p : Code} → answer_code a ≡ p
-          → motion_code (given_unless a (values_of class Ss S1)) ≡ record { code = p; values = cond (eqb p.number 0) (values_of class Ss S1) no_values }
-      go Accepted e = rw (← e)
-      go (Refused r) e = rw (← e, never_zero r)
+          → motion_code (reply_unless a (values_of class Ss S1)) ≡ record { code = p; values = cond (eqb p.number 0) (values_of class Ss S1) no_values }
+      go (Ok u) e = rw (← e)
+      go (Err r) e = rw (← e, never_zero r)
 
   reply_justified : ReplyJustified class Ss S1 (ground_motion class Ss S1)
   unfolding ground_motion
   reply_justified = go (first_of (motion_order class Ss S1)) refl
     where
-      go : (a : Answer) → first_of (motion_order class Ss S1) ≡ a → ReplyJustified class Ss S1 (given_unless a (values_of class Ss S1))
-      go (Refused r) e = tt
-      go Accepted e =
+      go : (a : Answer) → first_of (motion_order class Ss S1) ≡ a → ReplyJustified class Ss S1 (reply_unless a (values_of class Ss S1))
+      go (Err r) e = tt
+      go (Ok u) e =
           let h = first_cons (other_class class) (too_large Ss S1 ∷ []) e in
           let known = both_hold (leb 65 class) (leb class 69) (not-false (is_class class) h.0) in
           let mapped = both_fail (ltb most_mapped Ss) (ltb most_mapped S1) (first_cons (too_large Ss S1) [] h.1).0 in
@@ -153,7 +153,7 @@ module _ (class Ss S1 : ℕ) where
           (ltb-false most_mapped Ss mapped.0) (ltb-false most_mapped S1 mapped.1)
 
   -- the further clauses of what answers as the definition does
-  pub motion_clauses : {r : GroundMotion.GroundMotion} → r ≡ ground_motion class Ss S1
+  pub motion_clauses : {r : Result DesignValues Refusal} → r ≡ ground_motion class Ss S1
       → record { value : r ≡ ground_motion class Ss S1; code : motion_code r ≡ ground_motion_code class Ss S1; reply_justified : ReplyJustified class Ss S1 r }
   motion_clauses e =
       record {
@@ -161,3 +161,37 @@ module _ (class Ss S1 : ℕ) where
         code = ap motion_code e ∙ motion_code_lem;
         reply_justified = subst (ReplyJustified class Ss S1) (sym e) reply_justified;
       }
+
+-- a class by its letter
+class_letter : (k : SiteClass) → is_class (letter_of k) ≡ true
+class_letter A = refl
+class_letter B = refl
+class_letter C = refl
+class_letter D = refl
+class_letter E = refl
+
+module _ (class Ss S1 : ℕ) {y : Result SiteClass Refusal} (classed : Classed class y) where
+  pub no_class : {r : Refusal} → y ≡ Err r → Err r ≡ ground_motion class Ss S1
+  unfolding ground_motion
+  no_class {r} e =
+      let h = MatchResult-at_err (λ k. letter_of k ≡ class) (λ q. (q ≡ BadSiteClass) × (is_class class ≡ false)) r e classed in
+      rw (h.0, h.1) refl
+
+  module _ {k : SiteClass} (e : y ≡ Ok k) where
+    pub letter_is : letter_of k ≡ class
+    letter_is = MatchResult-at_ok (λ k. letter_of k ≡ class) (λ q. (q ≡ BadSiteClass) × (is_class class ≡ false)) k e classed
+
+    known : is_class class ≡ true
+    known = ap is_class (sym letter_is) ∙ class_letter k
+
+    pub ss_above : most_mapped < Ss → Err FigureOutOfRange ≡ ground_motion class Ss S1
+    unfolding ground_motion
+    ss_above h = rw (known, lt-ltb most_mapped Ss h) refl
+
+    pub s1_above : Ss ≤ most_mapped → most_mapped < S1 → Err FigureOutOfRange ≡ ground_motion class Ss S1
+    unfolding ground_motion
+    s1_above h i = rw (known, le-ltb most_mapped Ss h, lt-ltb most_mapped S1 i) refl
+
+    pub given_values : Ss ≤ most_mapped → S1 ≤ most_mapped → Ok (values_of (letter_of k) Ss S1) ≡ ground_motion class Ss S1
+    unfolding ground_motion
+    given_values h i = rw (letter_is, known, le-ltb most_mapped Ss h, le-ltb most_mapped S1 i) refl

@@ -5,7 +5,8 @@ use Prim.Native.String.{String}
 use Rattle.lists.specs.Ascii.{ascii}
 use Rattle.fields.specs.Refusal.{plain}
 use Rattle.ground.specs.Chart.{Chart, row, coefficient_of}
-use Rattle.ground.specs.Motion.{is_class, MotionCode, sds_of, sd1_of, vertical_of, motion_code, ground_motion}
+use Rattle.ground.specs.Class.{is_class}
+use Rattle.ground.specs.Motion.{MotionCode, sds_of, sd1_of, vertical_of, motion_code, ground_motion}
 use Rattle.ground.specs.declared.motion.DesignValues.{DesignValues}
 
 abbrev pub table26 : List (List ℕ)

@@ -1,3 +1,4 @@
 pub mod Chart
 pub mod Motion
 pub mod Cases
+pub mod Class

@@ -1,19 +1,15 @@
 -- Ground motion from the map values: document 02, S-2. Ss and S1 in thousandths of g, the site class by its capital letter.
-use Rattle.std.specs.Prelude.{◌≡◌, Bool, not, ◌&&◌, ◌||◌, cond, List, [], ◌∷◌, ℕ, ◌*◌, ◌≤◌, leb, ltb, eqb}
+use Rattle.fields.specs.declared.refusal.Refusal.{Refusal}
+use Rattle.std.specs.Prelude.{◌≡◌, not, ◌||◌, cond, List, [], ◌∷◌, ℕ, ◌*◌, ◌≤◌, ltb, eqb, Result, Ok, Err}
 use Rattle.exact.specs.Quotient.{Ratio, down_of, up_of, whole, AtLeast}
-use Rattle.fields.specs.Order.{Condition, ◌when◌, first_of, reply_unless, first_code}
+use Rattle.std.specs.Result.{result_unwrap_or}
+use Rattle.fields.specs.Order.{Condition, ◌when◌, first_of, reply_unless, answer_code, first_code}
 use Rattle.fields.specs.Range.{In}
-use Rattle.fields.specs.Refusal.{plain, code_of}
-use Rattle.fields.specs.declared.answer.Answer.{Answer}
 use Rattle.fields.specs.declared.refusal.Code.{Code}
 use Rattle.fields.specs.declared.refusal.Refusal.TheVariants.{FigureOutOfRange, BadSiteClass}
+use Rattle.ground.specs.Class.{is_class}
 use Rattle.ground.specs.Chart.{Chart, fa, fv, row_of, coefficient_of, Interpolates}
-use Rattle.ground.specs.declared.motion.GroundMotion as GroundMotion
 use Rattle.ground.specs.declared.motion.DesignValues.{DesignValues}
-
--- the capital letters A to E, in ASCII
-abbrev pub is_class : ℕ → Bool
-is_class class = leb 65 class && leb class 69
 
 -- the most that Ss and S1 may be
 abbrev pub most_mapped : ℕ
@@ -66,11 +62,8 @@ too_large Ss S1 = FigureOutOfRange when (ltb most_mapped Ss || ltb most_mapped S
 abbrev pub motion_order : ℕ → ℕ → ℕ → List Condition
 motion_order class Ss S1 = other_class class ∷ too_large Ss S1 ∷ []
 
-abbrev pub given_unless : Answer → DesignValues → GroundMotion.GroundMotion
-given_unless = reply_unless GroundMotion.TheVariants.Given GroundMotion.TheVariants.Refused
-
-unfoldable pub ground_motion : ℕ → ℕ → ℕ → GroundMotion.GroundMotion
-ground_motion class Ss S1 = given_unless (first_of (motion_order class Ss S1)) (values_of class Ss S1)
+unfoldable pub ground_motion : ℕ → ℕ → ℕ → Result DesignValues Refusal
+ground_motion class Ss S1 = reply_unless (first_of (motion_order class Ss S1)) (values_of class Ss S1)
 
 -- The code of each case of the answer: 0 and the figures, or the refusal's number and no figures.
 pub record MotionCode : Type 0 where
@@ -80,9 +73,8 @@ pub record MotionCode : Type 0 where
 abbrev pub no_values : DesignValues
 no_values = record { sds = 0; sd1 = 0; vertical = 0 }
 
-abbrev pub motion_code : GroundMotion.GroundMotion → MotionCode
-motion_code (GroundMotion.TheVariants.Given v) = record { code = plain 0; values = v }
-motion_code (GroundMotion.TheVariants.Refused r) = record { code = code_of r; values = no_values }
+abbrev pub motion_code : Result DesignValues Refusal → MotionCode
+motion_code y = record { code = answer_code y; values = result_unwrap_or y no_values }
 
 unfoldable pub ground_motion_code : ℕ → ℕ → ℕ → MotionCode
 ground_motion_code class Ss S1 =
@@ -110,6 +102,6 @@ pub record ValuesJustified (class Ss S1 : ℕ) (v : DesignValues) : Type 0 where
   pub vertical_most : v.vertical ≤ greatest.vertical
   pub vertical_in_range : In 10 v.vertical
 
-abbrev pub ReplyJustified : ℕ → ℕ → ℕ → GroundMotion.GroundMotion → Type 0
-ReplyJustified class Ss S1 (GroundMotion.TheVariants.Given v) = ValuesJustified class Ss S1 v
-ReplyJustified class Ss S1 (GroundMotion.TheVariants.Refused r) = Unit {0}
+abbrev pub ReplyJustified : ℕ → ℕ → ℕ → Result DesignValues Refusal → Type 0
+ReplyJustified class Ss S1 (Ok v) = ValuesJustified class Ss S1 v
+ReplyJustified class Ss S1 (Err r) = Unit {0}

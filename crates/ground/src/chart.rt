@@ -1,29 +1,52 @@
-// The charts of the site coefficients (source 001, Tables 3 and 4).
-ghost use Rattle.std.specs.Prelude.{◌≡◌, ◌*◌, ◌≤◌};
+// The charts of the site coefficients (source 001, Tables 3 and 4). `as` widens, as in hoop.rt of `rules`.
+ghost use Rattle.std.specs.Prelude.{◌≡◌, ◌*◌, ◌≤◌, ◌<◌, ◌+◌};
 ghost use Rattle.ground.specs.Chart.{chart, interpolated, coefficient_of};
+ghost use Rattle.ground.specs.Class.{letter_of};
 ghost use Rattle.ground.specs.Motion.{most_mapped};
 
-// Fa and Fv in tenths, a row for each class from A to E, and the thousandths of g from column to column; the first
+use crate::class::SiteClass;
+
+// Coefficients in tenths, a row for each class from A to E, and the thousandths of g from column to column; the first
 // column stands at one step.
-pub(crate) const FA_STEP: u8 = 250;
+// Never compared or printed.
+#[derive(Clone, Copy)]
+pub(crate) struct SiteChart {
+    step: u8,
+    rows: [[u8; 5]; 5],
+}
 
-pub(crate) const FA: [[u8; 5]; 5] = [
-    [8, 8, 8, 8, 8],
-    [10, 10, 10, 10, 10],
-    [12, 12, 11, 10, 10],
-    [16, 14, 12, 11, 10],
-    [25, 17, 12, 9, 9],
-];
+pub(crate) const FA: SiteChart = SiteChart {
+    step: 250,
+    rows: [
+        [8, 8, 8, 8, 8],
+        [10, 10, 10, 10, 10],
+        [12, 12, 11, 10, 10],
+        [16, 14, 12, 11, 10],
+        [25, 17, 12, 9, 9],
+    ],
+};
 
-pub(crate) const FV_STEP: u8 = 100;
+pub(crate) const FV: SiteChart = SiteChart {
+    step: 100,
+    rows: [
+        [8, 8, 8, 8, 8],
+        [10, 10, 10, 10, 10],
+        [17, 16, 15, 14, 13],
+        [24, 20, 18, 16, 15],
+        [35, 32, 28, 24, 24],
+    ],
+};
 
-pub(crate) const FV: [[u8; 5]; 5] = [
-    [8, 8, 8, 8, 8],
-    [10, 10, 10, 10, 10],
-    [17, 16, 15, 14, 13],
-    [24, 20, 18, 16, 15],
-    [35, 32, 28, 24, 24],
-];
+impl SiteChart {
+    // A map value adjusted for the site class, F * S (source 001, Eq 14-1 and 14-2), over 10 * step * 1000.
+    pub(crate) fn adjusted(self, class: SiteClass, mapped: u32) -> u32
+        requires { mapped ≤ most_mapped }
+        ensures { result ≡ coefficient_of (chart self.step self.rows) (letter_of class) mapped * mapped }
+    {
+        let rows = self.rows;
+        coefficient(rows[class.row()], self.step, mapped) * mapped
+    }
+}
 
 // The coefficient of a class with these figures at x thousandths of g, over 10 * step. Figures and step are
 // bytes, so that no product wraps.
@@ -38,23 +61,13 @@ fn coefficient(figures: [u8; 5], step: u8, x: u32) -> u32
     if 5 * s <= x {
         return times(figures[4], s);
     }
+    // A usize is not From a u32.
     let next = (x / s) as usize;
     let at = next - 1;
     let past = x % s;
     let left = times(figures[at], s - past);
     let right = times(figures[next], past);
     left + right
-}
-
-// A map value adjusted for the site class, F * S (source 001, Eq 14-1 and 14-2), over 10 * step * 1000.
-pub(crate) fn adjusted(rows: [[u8; 5]; 5], step: u8, class: u8, mapped: u32) -> u32
-    requires le_class { 65 ≤ class }
-    requires class_bound { class ≤ 69 }
-    requires mapped_le_most_mapped { mapped ≤ most_mapped }
-    ensures { result ≡ coefficient_of (chart step rows) class mapped * mapped }
-{
-    let row = (class - b'A') as usize;
-    coefficient(rows[row], step, mapped) * mapped
 }
 
 // A figure times a number of thousandths, at most 255.

@@ -2,6 +2,7 @@
 #![tactic(auto)]
 
 mod chart;
+mod class;
 mod motion;
 
-pub use motion::{DesignValues, GroundMotion, ground_motion};
+pub use motion::{DesignValues, ground_motion};

@@ -1,16 +1,16 @@
 // The courses' lines of a report, and whether they all hold.
-ghost use Rattle.std.specs.Prelude.{◌≡◌, ◌≤◌, T, take};
+ghost use Rattle.std.specs.Prelude.{◌≡◌, T};
 ghost use Rattle.lists.specs.Pad.{padded};
-ghost use Rattle.rules.specs.Bounds.{most_height};
 ghost use Rattle.fields.specs.Order.{clear};
-ghost use Rattle.entries.specs.Sheet.{height_of, tank_flaws, course_flaws};
-ghost use Rattle.parts.specs.Parts.{courses_clear};
+ghost use Rattle.entries.specs.Sheet.{tank_flaws, course_flaws};
+ghost use Rattle.sheet.specs.Complete.{courses_of, Valid};
 ghost use Rattle.reports.specs.Report.{line_of, lines_of, blank_line, courses_hold};
 
-use entries::{Course, Tank};
+use entries::{Course, MOST_COURSES, Tank};
 use reports::report::CourseLine;
 use rules::hoop;
 use rules::method::Method;
+use sheet::complete::Entries;
 
 // The line of a course whose bottom edge is at this height.
 fn line(method: Method, tank: Tank, edge: u32, c: Course) -> CourseLine
@@ -31,40 +31,25 @@ fn line(method: Method, tank: Tank, edge: u32, c: Course) -> CourseLine
     }
 }
 
-// The lines of the first n courses, and blank ones up to twelve.
-pub(crate) fn lines(method: Method, tank: Tank, courses: [Course; 12], n: usize) -> [CourseLine; 12]
-    requires n_bound { n ≤ 12 }
-    requires tank_clear { T (clear (tank_flaws tank)) }
-    requires courses_clear { T (courses_clear (take n courses)) }
-    requires courses_bound { height_of (take n courses) ≤ most_height }
-    ensures { result ≡ padded blank_line (lines_of method tank 0 (take n courses)) }
+// The courses' lines, and blank ones up to twelve.
+pub(crate) fn lines(method: Method, e: &Entries) -> [CourseLine; 12]
+    requires { Valid e.now }
+    ensures { result ≡ padded blank_line (lines_of method e.now.tank 0 (courses_of e.now)) }
 {
-    let blank = CourseLine::blank();
-    let mut all = [blank; 12];
+    let mut all = [CourseLine::blank(); MOST_COURSES];
     let mut edge: u32 = 0;
-    let mut i: usize = 0;
-    while i < n {
-        let c = courses[i];
-        all[i] = line(method, tank, edge, c);
+    for i in 0..e.count {
+        let c = e.courses[i];
+        all[i] = line(method, e.tank, edge, c);
         edge += c.width;
-        i += 1;
     }
     all
 }
 
-// Whether the first n courses hold.
-pub(crate) fn all_hold(lines: [CourseLine; 12], n: usize) -> bool
-    requires { n ≤ 12 }
-    ensures { result ≡ courses_hold (take n lines) }
+// Whether these courses hold.
+#[tactic(auto, unfolding(reports::specs::Report::courses_hold))]
+pub(crate) fn all_hold(lines: &[CourseLine]) -> bool
+    ensures { result ≡ courses_hold lines.now }
 {
-    let mut i: usize = 0;
-    while i < n {
-        let l = lines[i];
-        let verdict = l.verdict;
-        if !verdict.holds() {
-            return false;
-        }
-        i += 1;
-    }
-    true
+    lines.iter().all(|l| l.verdict.holds())
 }

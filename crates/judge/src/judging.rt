@@ -1,113 +1,96 @@
 // The question: is this tank sound? (Document 01, "Filling in" and "Order"; document 02, S-1 and S-3.)
-ghost use Rattle.std.specs.Prelude.{◌≡◌, ◌≤◌, take};
+ghost use Rattle.std.specs.Prelude.{◌≡◌, [], ◌∷◌};
+ghost use Rattle.std.specs.Result.{ForOk};
 ghost use Rattle.fields.specs.Order.{answer_code};
-ghost use Rattle.rules.specs.Method.{method_number};
-ghost use Rattle.sheet.specs.Complete.{entries_of, courses_of, Valid};
-ghost use Rattle.reports.specs.Report.{word_of, report_of};
-ghost use Rattle.reports.specs.Judging.{judged, judged_entries, judged_completed, after_thirty, refused_for, completed_judge_code, judge_code};
+ghost use Rattle.sheet.specs.Complete.{entries_of, entries_in, courses_of, Valid};
+ghost use Rattle.reports.specs.Report.{word_of};
+ghost use Rattle.reports.specs.Judging.{judged, judged_completed, report_for, report_by, report_with, completed_judge_code, judge_code};
 ghost use Rattle.reports.specs.Meets.{JustifiedBy};
 
 use crate::{courses, standing};
 use entries::Sheet;
-use fields::{Answer, Refusal};
+use fields::Refusal;
 use reports::report::{CourseLine, Judgement, Report, Standing, Word};
-use rules::method::{Method, MethodChoice, method_of};
+use rules::method::Method;
 use rules::wind;
-use sheet::complete::{Completed, Completeness, Entries};
+use sheet::complete::Entries;
 
-// The report on a sheet by the method with this number, 1 for D100 and 2 for API 650; exact fractions bear out its
-// word. Refused: 30, 42, 32, 35, 36, 38, 37.
+// The report on a sheet by the method with this number, 1 for D100 and 2 for API 650 (a number, since any is answered);
+// exact fractions bear out its word. Refused: 30, 42, 32, 35, 36, 38, 37.
 pub fn judge(method: u32, s: Sheet) -> Judgement
     ensures value { result ≡ judged method s }
     ensures code { answer_code result.answer ≡ judge_code method s }
     ensures justified_by { JustifiedBy method (entries_of s) result }
 {
-    let completed = complete::of_sheet(s);
-    judge_completed(method, completed)
+    judge_completed(method, complete::of_sheet(s))
 }
 
-// The same, given what a sheet is asked first: for questions that have its entries already. From bytes that may be
+// The same, by number too, given what a sheet is asked first: for questions that have its entries already. From bytes that may be
 // a refusal of reading, before which 42 would stand: judge those by 1 or 2.
-pub fn judge_completed(method: u32, c: Completed) -> Judgement
-    requires { c.status ≡ Completeness.Complete → Valid c.entries }
+pub fn judge_completed(method: u32, c: Result<Entries, Refusal>) -> Judgement
+    requires { ForOk c Valid }
     ensures value { result ≡ judged_completed method c }
     ensures code { answer_code result.answer ≡ completed_judge_code method c }
-    ensures justified_by { JustifiedBy method c.entries result }
+    ensures justified_by { JustifiedBy method (entries_in c) result }
 {
-    let status = c.status;
-    match method_of(method) {
-        MethodChoice::Chosen(chosen) => judge_chosen(chosen, c),
-        MethodChoice::Refused(refusal) => without(after_thirty(status, refusal)),
+    match report_for(method, c) {
+        Ok(report) => Judgement {
+            answer: Ok(()),
+            report,
+        },
+        Err(refusal) => Judgement {
+            answer: Err(refusal),
+            report: Report::blank(),
+        },
     }
 }
 
-// 30, or else this refusal.
-fn after_thirty(status: Completeness, refusal: Refusal) -> Refusal
-    ensures { result ≡ after_thirty status refusal }
+fn report_for(method: u32, c: Result<Entries, Refusal>) -> Result<Report, Refusal>
+    requires { ForOk c Valid }
+    ensures { result ≡ report_for method c }
 {
-    match status {
-        Completeness::Unreachable => Refusal::Unreachable,
-        Completeness::Refused(_) => refusal,
-        Completeness::Complete => refusal,
+    match c {
+        Ok(e) => report_by(Method::try_from(method)?, e),
+        Err(refusal) => Err(after_thirty(method, refusal)),
     }
 }
 
-// By a method. Refused: 30, 32, 35, 36, 38, 37.
-fn judge_chosen(method: Method, c: Completed) -> Judgement
-    requires { c.status ≡ Completeness.Complete → Valid c.entries }
-    ensures { result ≡ judged_completed (method_number method) c }
+// 42, where no method has the number, stands between 30 and the other refusals (document 02, S-3).
+fn after_thirty(method: u32, refusal: Refusal) -> Refusal
+    ensures { Err result ≡ report_for method (Err refusal) }
 {
-    let status = c.status;
-    let entries = c.entries;
-    match status {
-        Completeness::Unreachable => without(Refusal::Unreachable),
-        Completeness::Refused(refusal) => without(refusal),
-        Completeness::Complete => judge_entries(method, entries),
+    match refusal {
+        Refusal::Unreachable => refusal,
+        _ => match Method::try_from(method) {
+            Ok(_) => refusal,
+            Err(other) => other,
+        },
     }
 }
 
-// No report, for this reason.
-fn without(refusal: Refusal) -> Judgement
-    ensures { result ≡ refused_for refusal }
-{
-    let report = Report::blank();
-    Judgement {
-        answer: Answer::Refused(refusal),
-        report,
-    }
-}
-
-// Judging the entries of a complete sheet.
-fn judge_entries(method: Method, e: Entries) -> Judgement
+// The report on the entries of a complete sheet. Refused: 37.
+fn report_by(method: Method, e: Entries) -> Result<Report, Refusal>
     requires { Valid e }
-    ensures { result ≡ judged_entries method e }
+    ensures { result ≡ report_by method e }
 {
-    let tank = e.tank;
-    if e.height < tank.level {
-        return without(Refusal::WaterAboveShell);
+    if e.height < e.tank.level {
+        return Err(Refusal::WaterAboveShell);
     }
-    let report = report(method, e);
-    Judgement {
-        answer: Answer::Accepted,
-        report,
-    }
+    Ok(report(method, e))
 }
 
 fn report(method: Method, e: Entries) -> Report
     requires { Valid e }
-    ensures { result ≡ report_of method e.tank e.site e.anchors (courses_of e) }
+    ensures { result ≡ report_with method e }
 {
-    let tank = e.tank;
     let site = e.site;
-    let anchors = e.anchors;
-    let courses = e.courses;
     let n = e.count;
     let pressure = wind::pressure(site.exposure, site.importance, site.speed);
-    let moment = wind::moment(pressure, tank.diameter, e.height);
-    let lines = courses::lines(method, tank, courses, n);
-    let standing = standing::standing(tank, site, anchors, moment);
+    let moment = wind::moment(pressure, e.tank.diameter, e.height);
+    let lines = courses::lines(method, &e);
+    let standing = standing::standing(&e, moment);
     let uses = standing::uses(standing);
-    let word = word(lines, n, standing);
+    let word = word(&lines[..n], standing);
     Report {
         lines,
         count: n,
@@ -120,11 +103,11 @@ fn report(method: Method, e: Entries) -> Report
 }
 
 // Sound when every course and both rules of its way of standing hold.
-fn word(lines: [CourseLine; 12], n: usize, standing: Standing) -> Word
-    requires { n ≤ 12 }
-    ensures { result ≡ word_of (take n lines) standing }
+#[tactic(auto, unfolding(reports::specs::Report::word_of))]
+fn word(lines: &[CourseLine], standing: Standing) -> Word
+    ensures { result ≡ word_of lines.now standing }
 {
-    if !courses::all_hold(lines, n) {
+    if !courses::all_hold(lines) {
         return Word::Short;
     }
     if standing::stands(standing) {

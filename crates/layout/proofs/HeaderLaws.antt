@@ -1,5 +1,6 @@
 -- The laws of reading before the steps: which refusal the bytes get, and what bytes that get none are like.
 -- Assumes nothing.
+use Rattle.std.specs.Prelude.{Ok, Err}
 use mathlib.Core.Path.{◌≡◌, refl, sym, ap, ◌∙◌, subst}
 use mathlib.Core.Bool.{true, false, not}
 use mathlib.Core.List.{List, [], ◌∷◌}
@@ -13,7 +14,6 @@ use mir.Facts.{leb_yes, eqb_yes, yes_leb, yes_eqb}
 use borrow.Author.Tests.{lt-ltb, le-ltb, ne_eqb, eq-eqb, ltb-false, not-false, eqb-true}
 use Rattle.fields.specs.declared.refusal.Refusal.TheVariants.{TooFewBytes, TooManyBytes, BadLength, BadVersion, BadCount}
 use Rattle.fields.specs.Order.{◌when◌, first_of}
-use Rattle.fields.specs.declared.answer.Answer.TheVariants.{Accepted, Refused}
 use Rattle.fields.proofs.OrderLaws.{first_cons}
 use Rattle.layout.specs.Numbers.{two_in}
 use Rattle.layout.specs.Layout.{version1, tail_length, body_length}
@@ -52,34 +52,34 @@ length_least L e = let l = (length_exactly L).0 (subst T (sym e) tt) in omega (a
 
 module _ (b : List ℕ) (L : ℕ) (e : two_in b ≡ L) where
   -- the tests of the order, one after the other
-  pub under_two : length b < 2 → Refused TooFewBytes ≡ first_of (read_order version1 b)
+  pub under_two : length b < 2 → Err TooFewBytes ≡ first_of (read_order version1 b)
   under_two h = rw (lt-ltb _ _ h)
 
   module _ (h : 2 ≤ length b) where
-    pub no_length : is_length version1 L ≡ false → Refused BadLength ≡ first_of (read_order version1 b)
+    pub no_length : is_length version1 L ≡ false → Err BadLength ≡ first_of (read_order version1 b)
     no_length k = rw (le-ltb _ _ h, e, k)
 
     module _ (k : is_length version1 L ≡ true) where
-      pub too_few : length b < 2 + L → Refused TooFewBytes ≡ first_of (read_order version1 b)
+      pub too_few : length b < 2 + L → Err TooFewBytes ≡ first_of (read_order version1 b)
       too_few l = rw (le-ltb _ _ h, e, k, lt-ltb _ _ l)
 
       module _ (l : 2 + L ≤ length b) where
-        pub too_many : 2 + L < length b → Refused TooManyBytes ≡ first_of (read_order version1 b)
+        pub too_many : 2 + L < length b → Err TooManyBytes ≡ first_of (read_order version1 b)
         too_many m = rw (le-ltb _ _ h, e, k, le-ltb _ _ l, lt-ltb _ _ m)
 
         module _ (m : length b ≤ 2 + L) where
-          pub no_version : (get_or b 2 0 ≡ 1 → ⊥) → Refused BadVersion ≡ first_of (read_order version1 b)
+          pub no_version : (get_or b 2 0 ≡ 1 → ⊥) → Err BadVersion ≡ first_of (read_order version1 b)
           no_version v = rw (le-ltb _ _ h, e, k, le-ltb _ _ l, le-ltb _ _ m, ne_eqb _ _ v)
 
           module _ (v : get_or b 2 0 ≡ 1) where
-            pub no_count : (get_or b 59 0 ≡ count_of version1 L → ⊥) → Refused BadCount ≡ first_of (read_order version1 b)
+            pub no_count : (get_or b 59 0 ≡ count_of version1 L → ⊥) → Err BadCount ≡ first_of (read_order version1 b)
             no_count n = rw (le-ltb _ _ h, e, k, le-ltb _ _ l, le-ltb _ _ m, v, get_or-drop 27 b 32 0, ne_eqb _ _ n)
 
-            pub no_flaw : get_or b 59 0 ≡ count_of version1 L → Accepted ≡ first_of (read_order version1 b)
+            pub no_flaw : get_or b 59 0 ≡ count_of version1 L → Ok tt ≡ first_of (read_order version1 b)
             no_flaw n = rw (le-ltb _ _ h, e, k, le-ltb _ _ l, le-ltb _ _ m, v, get_or-drop 27 b 32 0, n, eq-eqb _ _ refl)
 
 -- bytes that come to the steps
-pub header : (b : List ℕ) → first_of (read_order version1 b) ≡ Accepted → Header b
+pub header : (b : List ℕ) → first_of (read_order version1 b) ≡ Ok tt → Header b
 header b e =
     let c1 = TooFewBytes when ltb (length b) 2 in
     let c2 = BadLength when not (is_length version1 (two_in b)) in
@@ -117,7 +117,7 @@ header_tail b h =
     record { few = omega (arith, e, h.few); all = omega (arith, e, h.whole, length-drop 27 b) }
 
 -- and back
-pub headed : (b : List ℕ) → Header b → first_of (read_order version1 b) ≡ Accepted
+pub headed : (b : List ℕ) → Header b → first_of (read_order version1 b) ≡ Ok tt
 headed b h =
     let k : is_length version1 (body_length version1 h.n) ≡ true = T_true (is_length version1 (body_length version1 h.n)) ((length_exactly (body_length version1 h.n)).1 (record { n = h.n; some = h.some; few = h.few; is = refl })) in
     sym (no_flaw b (body_length version1 h.n) h.body (omega (arith, h.whole)) k (omega (arith, h.whole)) (omega (arith, h.whole)) h.version (sym (get_or-drop 27 b 32 0) ∙ h.count ∙ sym (count_of_length h.n)))

@@ -9,7 +9,9 @@ use native.Mathlib.Numerals.{add-one}
 use lib.ListN.{length, get_or, take, drop, length-drop}
 use lib.Seq.{sets, get_or-drop, drop-drop, take-suc, take-add, length-take-le}
 use Rattle.lists.proofs.SetsLaws.{sets_append}
-use Rattle.layout.specs.Numbers.{AllBytes, two, four, fours, two_in, four_in}
+use Rattle.std.specs.Int.{from_be_bytes, to_be_bytes}
+use mir.Syntax.{w32}
+use Rattle.layout.specs.Numbers.{AllBytes, two, four, fours, two_in, four_in, figures_from}
 
 -- at a place of the bytes
 pub four_at : (b : List ℕ) (i : ℕ) → four_in (drop i b) ≡ 16777216 * get_or b i 0 + 65536 * get_or b (i + 1) 0 + 256 * get_or b (i + 2) 0 + get_or b (i + 3) 0
@@ -17,6 +19,23 @@ unfolding four_in
 four_at b i =
     let z : get_or (drop i b) 0 0 ≡ get_or b i 0 = get_or-drop i b 0 0 ∙ ap (λ (k : ℕ). get_or b k 0) (add-zero i) in
     omega (arith, z, get_or-drop i b 1 0, get_or-drop i b 2 0, get_or-drop i b 3 0)
+
+-- by the library's methods
+pub from_bytes : (b : List ℕ) (i : ℕ)
+    → from_be_bytes w32 (get_or b i 0 ∷ get_or b (i + 1) 0 ∷ get_or b (i + 2) 0 ∷ get_or b (i + 3) 0 ∷ []) ≡ four_in (drop i b)
+from_bytes b i = omega (arith, four_at b i)
+
+pub to_bytes : (x : ℕ) → to_be_bytes w32 x ≡ four x
+to_bytes x = refl
+
+-- one figure more
+pub figures_next : (n i : ℕ) (b : List ℕ) → figures_from i (n + 1) b ≡ figures_from i n b ++ (four_in (drop (i + 4 * n) b) ∷ [])
+figures_next zero i b = ap (λ (k : ℕ). four_in (drop k b) ∷ []) (sym (add-zero i))
+figures_next (suc n) i b =
+    let e : i + 4 + 4 * n ≡ i + 4 * suc n = omega arith in
+    ap (λ (k : ℕ). figures_from i k b) (add-one (suc n))
+    ∙ ap (λ (l : List ℕ). four_in (drop i b) ∷ l) (ap (λ (k : ℕ). figures_from (i + 4) k b) (sym (add-one n)) ∙ figures_next n (i + 4) b)
+    ∙ ap (λ (k : ℕ). four_in (drop i b) ∷ (figures_from (i + 4) n b ++ (four_in (drop k b) ∷ []))) e
 
 pub four_on : (b : List ℕ) (i k : ℕ) → four_in (drop k (drop i b)) ≡ four_in (drop (i + k) b)
 four_on b i k = ap four_in (drop-drop k i b)
@@ -89,11 +108,6 @@ back_two (a ∷ b ∷ l) k h =
 
 pub bytes_drop : (b : List ℕ) (i : ℕ) → AllBytes b → AllBytes (drop i b)
 bytes_drop b i k = record { below = λ j. subst (λ (x : ℕ). x < 256) (sym (get_or-drop i b j 0)) (k.below (i + j)) }
-
--- n numbers, from place i on
-abbrev pub figures_from : ℕ → ℕ → List ℕ → List ℕ
-figures_from i zero b = []
-figures_from i (suc n) b = four_in (drop i b) ∷ figures_from (i + 4) n b
 
 pub figures_back : (n i : ℕ) (b : List ℕ) → AllBytes b → i + 4 * n ≤ length b → fours (figures_from i n b) ≡ take (4 * n) (drop i b)
 figures_back zero i b k h = refl

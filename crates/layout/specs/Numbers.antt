@@ -1,5 +1,5 @@
 -- Numbers in bytes, both ways: document 01, "Filling in" ("All numbers are big-endian"). A byte is a number below 256.
-use Rattle.std.specs.Prelude.{List, [], ◌∷◌, ◌++◌, ℕ, ◌+◌, ◌*◌, ◌/◌, ◌%◌, ◌<◌, get_or}
+use Rattle.std.specs.Prelude.{List, [], ◌∷◌, ◌++◌, ℕ, ◌+◌, ◌*◌, ◌/◌, ◌%◌, ◌<◌, get_or, drop, zero, suc}
 
 pub record AllBytes (b : List ℕ) : Type 0 where
   pub below : (i : ℕ) → get_or b i 0 < 256
@@ -21,3 +21,11 @@ two_in b = 256 * get_or b 0 0 + get_or b 1 0
 
 unfoldable pub four_in : List ℕ → ℕ
 four_in b = 16777216 * get_or b 0 0 + 65536 * get_or b 1 0 + 256 * get_or b 2 0 + get_or b 3 0
+
+-- the first n numbers of four bytes
+abbrev pub figures_from : ℕ → ℕ → List ℕ → List ℕ
+figures_from i zero b = []
+figures_from i (suc n) b = four_in (drop i b) ∷ figures_from (i + 4) n b
+
+abbrev pub figures_in : ℕ → List ℕ → List ℕ
+figures_in n b = figures_from 0 n b

@@ -1,10 +1,11 @@
-// A sheet's bytes stored in a buffer, part by part (document 01, "Filling in").
-ghost use Rattle.std.specs.Prelude.{◌≡◌, ◌+◌, ◌*◌, ◌≤◌, length, take};
+// A sheet's bytes stored in a buffer, part by part (document 01, "Filling in"). Each part has its place in the layout, a
+// number, so it goes beside the buffer.
+ghost use Rattle.std.specs.Prelude.{◌≡◌, ◌+◌, ◌*◌, ◌≤◌, length};
 ghost use Rattle.std.proofs.lemmas.List.Edits.{sets};
 ghost use Rattle.layout.specs.Numbers.{four, fours};
 ghost use Rattle.layout.specs.Layout.{version1, prefix_of, tail_head, courses_figures};
 
-use entries::{Anchors, Course, Site, Tank};
+use entries::{Anchors, Course, Entry, Site, Tank};
 
 // Length, version and tank of a sheet with n courses.
 pub fn put_prefix(out: &mut [u8], tank: Tank, n: usize)
@@ -12,6 +13,7 @@ pub fn put_prefix(out: &mut [u8], tank: Tank, n: usize)
     ensures { out.new ≡ sets out.old 0 (prefix_of version1 n tank) }
 {
     let length = 58 + 20 * n;
+    // By `to_be_bytes` it would have to be a u16 first.
     out[0] = (length / 256 % 256) as u8;
     out[1] = (length % 256) as u8;
     out[2] = 1;
@@ -25,19 +27,17 @@ pub fn put_tail_head(out: &mut [u8], at: usize, site: Site, anchors: Anchors, n:
 {
     put_fours(out, at, &site.figures());
     put_fours(out, at + 20, &anchors.figures());
+    // At most 12, which a cast keeps.
     out[at + 32] = n as u8;
 }
 
-// The first n courses, from a place on.
-pub fn put_courses(out: &mut [u8], at: usize, courses: [Course; 12], n: usize)
-    requires { (at + 20 * n ≤ length out.old) × (n ≤ 12) }
-    ensures { out.new ≡ sets out.old at (fours (courses_figures (take n courses))) }
+// The courses, from a place on.
+pub fn put_courses(out: &mut [u8], at: usize, courses: &[Course])
+    requires { at + 20 * length courses.now ≤ length out.old }
+    ensures { out.new ≡ sets out.old at (fours (courses_figures courses.now)) }
 {
-    let mut i: usize = 0;
-    while i < n {
-        let c = courses[i];
+    for (i, &c) in courses.iter().enumerate() {
         put_fours(out, at + 20 * i, &c.figures());
-        i += 1;
     }
 }
 
@@ -46,10 +46,8 @@ fn put_fours(out: &mut [u8], at: usize, figures: &[u32])
     requires { at + 4 * length figures.now ≤ length out.old }
     ensures { out.new ≡ sets out.old at (fours figures.now) }
 {
-    let mut i: usize = 0;
-    while i < figures.len() {
-        put_four(out, at + 4 * i, figures[i]);
-        i += 1;
+    for (i, &x) in figures.iter().enumerate() {
+        put_four(out, at + 4 * i, x);
     }
 }
 
@@ -57,8 +55,5 @@ fn put_four(out: &mut [u8], at: usize, x: u32)
     requires { at + 4 ≤ length out.old }
     ensures { out.new ≡ sets out.old at (four x) }
 {
-    out[at] = (x / 16777216 % 256) as u8;
-    out[at + 1] = (x / 65536 % 256) as u8;
-    out[at + 2] = (x / 256 % 256) as u8;
-    out[at + 3] = (x % 256) as u8;
+    out[at..at + 4].copy_from_slice(&x.to_be_bytes());
 }

@@ -2,38 +2,46 @@
 -- Assumes nothing.
 use mathlib.Core.Path.{◌≡◌, refl, sym, ap, ◌∙◌}
 use mathlib.Core.List.{List, [], ◌∷◌, ◌++◌, append_assoc, append-nil}
-use Prim.Native.Nat.{ℕ, suc, ◌+◌, ◌≤◌, ◌<◌}
-use native.Mathlib.Numerals.{add-one}
+use Prim.Native.Nat.{ℕ, suc, ◌+◌, ◌<◌}
 use native.Mathlib.Omega.{arith}
-use lib.ListN.{length, get_or, take, drop, length-take, drop_of_length-le}
-use lib.Seq.{drop-cons, get_or-take}
+use native.Mathlib.Nat.{add-zero}
+use lib.ListN.{length, get_or, take}
+use lib.Seq.{length-take-le}
+use Rattle.std.proofs.lemmas.List.{take_more}
 use Rattle.reports.specs.declared.report.CourseLine.{CourseLine}
 use Rattle.lines.specs.Text.{Line, line, text, course_line, course_lines}
-use Rattle.words.specs.Stored.{Stored}
+use Rattle.words.specs.Stored.{Appends}
+use Rattle.words.specs.declared.store.Text.{Text}
 use Rattle.words.proofs.StoreLaws.{then}
 
 pub text_append : (ls ms : List Line) → text (ls ++ ms) ≡ text ls ++ text ms
 text_append [] ms = refl
 text_append (l ∷ ls) ms = ap (λ (x : List ℕ). line l ++ x) (text_append ls ms) ∙ sym (append_assoc (line l) (text ls) (text ms))
 
-pub texts_then : {buf b b' : List ℕ} {at i j : ℕ} (ls ms : List Line) → Stored buf at (text ls) b i → Stored b i (text ms) b' j
-    → Stored buf at (text (ls ++ ms)) b' j
+pub texts_then : {m n : ℕ} {a b c : Text} (ls ms : List Line) → Appends m a (text ls) b → Appends n b (text ms) c
+    → Appends (m + n) a (text (ls ++ ms)) c
 texts_then ls ms f g = rw (text_append ls ms) (then f g)
 
 -- a line by itself, and at the end of a text
-pub line_alone : {buf b : List ℕ} {at i : ℕ} (l : Line) → Stored buf at (line l) b i → Stored buf at (text (l ∷ [])) b i
+pub line_alone : {n : ℕ} {a b : Text} (l : Line) → Appends n a (line l) b → Appends n a (text (l ∷ [])) b
 line_alone l f = rw (append-nil (line l)) f
 
--- the lines of the first n courses, from place i on
-module _ (cs : List CourseLine) (n i : ℕ) where
-  abbrev from : ℕ → List ℕ
-  from j = text (course_lines (j + 1) (drop j (take n cs)))
+-- the lines of the courses up to a place, and one more
+courses_append : (k : ℕ) (xs ys : List CourseLine) → course_lines k (xs ++ ys) ≡ course_lines k xs ++ course_lines (k + length xs) ys
+courses_append k [] ys = ap (λ (n : ℕ). course_lines n ys) (sym (add-zero k))
+courses_append k (x ∷ xs) ys =
+    ap (λ (ls : List Line). course_line k x ∷ ls) (courses_append (k + 1) xs ys)
+    ∙ ap (λ (n : ℕ). course_line k x ∷ (course_lines (k + 1) xs ++ course_lines n ys)) (let e : k + 1 + length xs ≡ k + suc (length xs) = omega arith in e)
 
-  pub courses_next : (d : CourseLine) → i < n → i < length cs → from i ≡ line (course_line (i + 1) (get_or cs i d)) ++ from (i + 1)
-  courses_next d h l =
-      let e = drop-cons (take n cs) i d (rw (length-take n cs) (omega arith)) in
-      ap (λ (xs : List CourseLine). text (course_lines (i + 1) xs)) (e ∙ ap (λ (c : CourseLine). c ∷ drop (suc i) (take n cs)) (get_or-take n cs i d h))
-      ∙ ap (λ (k : ℕ). line (course_line (i + 1) (get_or cs i d)) ++ text (course_lines (i + 1 + 1) (drop k (take n cs)))) (sym (add-one i))
+more_lines : (cs : List CourseLine) (i : ℕ) (d : CourseLine) → i < length cs
+    → text (course_lines 1 (take (i + 1) cs)) ≡ text (course_lines 1 (take i cs)) ++ line (course_line (i + 1) (get_or cs i d))
+more_lines cs i d h =
+    let c = get_or cs i d in
+    let n : 1 + length (take i cs) ≡ i + 1 = omega (arith, length-take-le i cs (omega arith)) in
+    rw (take_more cs i d h, courses_append 1 (take i cs) (c ∷ []), text_append (course_lines 1 (take i cs)) (course_lines (1 + length (take i cs)) (c ∷ [])), n)
+    (ap (λ (l : List ℕ). text (course_lines 1 (take i cs)) ++ l) (append-nil (line (course_line (i + 1) c))))
 
-  pub courses_end : length (take n cs) ≤ i → from i ≡ []
-  courses_end h = ap (λ (xs : List CourseLine). text (course_lines (i + 1) xs)) (drop_of_length-le (take n cs) h)
+pub courses_more : {m n : ℕ} {a b t : Text} (cs : List CourseLine) (i : ℕ) (d : CourseLine) → i < length cs
+    → Appends m a (text (course_lines 1 (take i cs))) b → Appends n b (line (course_line (i + 1) (get_or cs i d))) t
+    → Appends (m + n) a (text (course_lines 1 (take (i + 1) cs))) t
+courses_more cs i d h f g = rw (more_lines cs i d h) (then f g)

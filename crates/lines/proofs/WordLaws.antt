@@ -1,5 +1,6 @@
 -- The printed word on the tank is the report's, and no refusal prints one: so what is printed is as true as what is judged.
 -- Assumes nothing.
+use Rattle.std.specs.Prelude.{Ok, Err}
 use mathlib.Core.Path.{◌≡◌, refl, sym, ap, subst, ◌∙◌}
 use mathlib.Core.Logic.{◌⊎◌, inl, inr}
 use mathlib.Core.Bool.{Bool, true, false, cond}
@@ -15,9 +16,7 @@ use Rattle.fields.specs.Refusal.{plain, code_of}
 use Rattle.fields.specs.declared.refusal.Code.{Code}
 use Rattle.fields.proofs.RefusalLaws.{never_zero}
 use Rattle.lists.specs.Ascii.{ascii}
-use Rattle.fields.specs.Order.{answer_code}
-use Rattle.fields.specs.declared.answer.Answer.{Answer}
-use Rattle.fields.specs.declared.answer.Answer.TheVariants.{Accepted, Refused}
+use Rattle.fields.specs.Order.{Answer, answer_code}
 use Rattle.rules.specs.declared.method.Method.{Method}
 use Rattle.sheet.specs.declared.complete.Entries.{Entries}
 use Rattle.reports.specs.Meets.{Justified}
@@ -109,10 +108,10 @@ tank_long Short = refl
 
 by_line : (a : Answer) (r : Report) (w : Word) → EndsIn (text (answer_lines a r)) (line (tank_line w))
     → (answer_code a ≡ plain 0) × (tank_word r.word ≡ tank_word w)
-by_line Accepted r w e =
+by_line (Ok u) r w e =
     let same = ends_same (tank_long r.word ∙ sym (tank_long w)) (report_end r) e in
     (refl, sym (word_in r.word) ∙ ap (λ (l : List ℕ). take 5 (drop 5 l)) same ∙ word_in w)
-by_line (Refused x) r w e =
+by_line (Err x) r w e =
     let d = refusal_end (code_of x) in
     let k = tank_letter w in
     let same = ap (λ (l : List ℕ). get_or l 0 0) (ends_same refl d.ends (ends_trans e k.ends)) in
@@ -124,8 +123,8 @@ one_of t Short e = inr e
 
 called : (a : Answer) (r : Report) → answer_code a ≡ plain 0
     → EndsIn (text (answer_lines a r)) (ascii "tank sound\n") ⊎ EndsIn (text (answer_lines a r)) (ascii "tank short\n")
-called Accepted r e = one_of (text (report_lines r)) r.word (report_end r)
-called (Refused x) r e = absurd (subst T (never_zero x) (subst (λ (p : Code). T (eqb p.number 0)) (sym e) tt))
+called (Ok u) r e = one_of (text (report_lines r)) r.word (report_end r)
+called (Err x) r e = absurd (subst T (never_zero x) (subst (λ (p : Code). T (eqb p.number 0)) (sym e) tt))
 
 pub text_justified : (method : Method) (e : Entries) (j : Judgement) → Justified method e j → TextJustified method e j
 unfolding text_of

@@ -1,12 +1,11 @@
 -- A report or a refusal as lines of words: document 01, "The example tank".
-use Rattle.std.specs.Prelude.{cond, List, [], ◌∷◌, ◌++◌, map, ℕ, ◌+◌, eqb, take}
+use Rattle.fields.specs.Order.{Answer}
+use Rattle.std.specs.Prelude.{cond, List, [], ◌∷◌, ◌++◌, map, ℕ, ◌+◌, eqb, take, Ok, Err}
 use Rattle.fields.specs.Refusal.{code_of}
 use Rattle.fields.specs.declared.refusal.Code.{Code}
 use Rattle.stability.specs.Earthquake.{uplift_word}
 use Rattle.rules.specs.Verdict.{verdict_word}
 use Rattle.lists.specs.Ascii.{ascii}
-use Rattle.fields.specs.declared.answer.Answer.{Answer}
-use Rattle.fields.specs.declared.answer.Answer.TheVariants.{Accepted, Refused}
 use Rattle.reports.specs.Report.{tank_word}
 use Rattle.reports.specs.declared.report.CourseLine.{CourseLine}
 use Rattle.reports.specs.declared.report.SelfChecks.{SelfChecks}
@@ -88,8 +87,8 @@ abbrev pub refusal_line : Code → Line
 refusal_line p = ascii "refused" ∷ map decimal (code_figures p)
 
 abbrev pub answer_lines : Answer → Report → List Line
-answer_lines Accepted r = report_lines r
-answer_lines (Refused refusal) r = refusal_line (code_of refusal) ∷ []
+answer_lines (Ok u) r = report_lines r
+answer_lines (Err refusal) r = refusal_line (code_of refusal) ∷ []
 
 unfoldable pub text_of : Judgement → List ℕ
 text_of j = text (answer_lines j.answer j.report)

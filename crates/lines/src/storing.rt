@@ -1,198 +1,163 @@
-// The lines of a report or a refusal (document 01, "The example tank"). Each function stores its part at a
-// place of the buffer, and gives the place after it; the bounds are those of numbers of twenty digits.
-ghost use Rattle.std.specs.Prelude.{[], ◌∷◌, map, ◌+◌, ◌≤◌, length, take};
+// The lines of a report or a refusal (document 01, "The example tank"), each appended to a text; the bounds are
+// those of numbers of twenty digits. `as` widens, as in hoop.rt of `rules`.
+ghost use Rattle.std.specs.Prelude.{[], ◌∷◌, map, ◌+◌, ◌*◌, ◌≤◌, length};
 ghost use Rattle.fields.specs.Refusal.{code_of};
 ghost use Rattle.stability.specs.Earthquake.{uplift_word};
 ghost use Rattle.rules.specs.Verdict.{verdict_word};
 ghost use Rattle.lines.specs.Text.{line, more, text, course_line, course_lines, wind_line, pull_line, anchor_line, self_line, standing_lines, tank_line, report_lines, code_figures, refusal_line, text_of, most_text};
 ghost use Rattle.words.specs.Decimal.{decimal};
-ghost use Rattle.words.specs.Stored.{Stored};
+ghost use Rattle.words.specs.Stored.{Stored, HasRoom, Appends};
 
-use fields::{Answer, Code, Refusal};
+use fields::{Code, Refusal};
 use reports::report::{AnchorChecks, CourseLine, Judgement, Report, SelfChecks, Standing, Word};
 use rules::verdict::Verdict;
 use stability::earthquake::Uplift;
-use words::{put, put_figure, put_signed};
+use words::Text;
 
 // With a blank in front.
-fn put_verdict(out: &mut [u8], at: usize, v: Verdict) -> usize
-    requires { at + 6 ≤ length out.old }
-    ensures upper_bound { result ≤ at + 6 }
-    ensures stored { Stored out.old at (0x20 ∷ verdict_word v) out.new result }
+fn put_verdict<'a>(to: Text<'a>, v: Verdict) -> Text<'a>
+    requires { HasRoom to 6 }
+    ensures { Appends 6 to.entry (0x20 ∷ verdict_word v) result }
 {
     match v {
-        Verdict::Holds(_) => put(out, at, b" ok"),
-        Verdict::Short(_) => put(out, at, b" short"),
+        Verdict::Holds(_) => to.put(b" ok"),
+        Verdict::Short(_) => to.put(b" short"),
     }
 }
 
-fn put_course(out: &mut [u8], at: usize, number: u64, c: CourseLine) -> usize
-    requires { at + 97 ≤ length out.old }
-    ensures upper_bound { result ≤ at + 97 }
-    ensures stored { Stored out.old at (line (course_line number c)) out.new result }
+fn put_course<'a>(to: Text<'a>, number: u64, c: CourseLine) -> Text<'a>
+    requires { HasRoom to 97 }
+    ensures { Appends 97 to.entry (line (course_line number c)) result }
 {
-    let next = put(out, at, b"course");
-    let next = put_figure(out, next, number);
-    let next = put_figure(out, next, c.need);
-    let next = put_figure(out, next, c.required);
-    let next = put_figure(out, next, c.plate as u64);
-    let verdict = c.verdict;
-    let next = put_verdict(out, next, verdict);
-    put(out, next, b"\n")
+    let figures = to
+        .put(b"course")
+        .put_figure(number)
+        .put_figure(c.need)
+        .put_figure(c.required)
+        .put_figure(c.plate as u64);
+    put_verdict(figures, c.verdict).put(b"\n")
 }
 
-// The first n of the lines, or all twelve.
-fn put_courses(out: &mut [u8], at: usize, lines: [CourseLine; 12], n: usize) -> usize
-    requires { at + 1164 ≤ length out.old }
-    ensures upper_bound { result ≤ at + 1164 }
-    ensures stored { Stored out.old at (text (course_lines 1 (take n lines))) out.new result }
+fn put_courses<'a>(mut to: Text<'a>, lines: &[CourseLine]) -> Text<'a>
+    requires { HasRoom to (97 * length lines.now) }
+    ensures { Appends (97 * length lines.now) to.entry (text (course_lines 1 lines.now)) result }
 {
-    let mut next = at;
-    let mut i: usize = 0;
-    while i < 12 {
-        if n <= i {
-            return next;
-        }
-        let c = lines[i];
-        next = put_course(out, next, i as u64 + 1, c);
-        i += 1;
+    for (i, c) in lines.iter().enumerate() {
+        to = put_course(to, i as u64 + 1, *c);
     }
-    next
+    to
 }
 
-fn put_wind(out: &mut [u8], at: usize, pressure: u64, moment: u64) -> usize
-    requires { at + 47 ≤ length out.old }
-    ensures upper_bound { result ≤ at + 47 }
-    ensures stored { Stored out.old at (line (wind_line pressure moment)) out.new result }
+fn put_wind<'a>(to: Text<'a>, pressure: u64, moment: u64) -> Text<'a>
+    requires { HasRoom to 47 }
+    ensures { Appends 47 to.entry (line (wind_line pressure moment)) result }
 {
-    let next = put(out, at, b"wind");
-    let next = put_figure(out, next, pressure);
-    let next = put_figure(out, next, moment);
-    put(out, next, b"\n")
+    to.put(b"wind")
+        .put_figure(pressure)
+        .put_figure(moment)
+        .put(b"\n")
 }
 
 // With a blank in front, and the line end.
-fn put_uplift(out: &mut [u8], at: usize, u: Uplift) -> usize
-    requires { at + 6 ≤ length out.old }
-    ensures upper_bound { result ≤ at + 6 }
-    ensures stored { Stored out.old at (more (uplift_word u ∷ [])) out.new result }
+fn put_uplift<'a>(to: Text<'a>, u: Uplift) -> Text<'a>
+    requires { HasRoom to 6 }
+    ensures { Appends 6 to.entry (more (uplift_word u ∷ [])) result }
 {
     match u {
-        Uplift::None => put(out, at, b" none\n"),
-        Uplift::Lift => put(out, at, b" lift\n"),
-        Uplift::Over => put(out, at, b" over\n"),
+        Uplift::None => to.put(b" none\n"),
+        Uplift::Lift => to.put(b" lift\n"),
+        Uplift::Over => to.put(b" over\n"),
     }
 }
 
-fn put_self(out: &mut [u8], at: usize, c: SelfChecks) -> usize
-    requires { at + 49 ≤ length out.old }
-    ensures upper_bound { result ≤ at + 49 }
-    ensures stored { Stored out.old at (line (self_line c)) out.new result }
+fn put_self<'a>(to: Text<'a>, c: SelfChecks) -> Text<'a>
+    requires { HasRoom to 49 }
+    ensures { Appends 49 to.entry (line (self_line c)) result }
 {
-    let next = put(out, at, b"self wind");
-    let wind = c.wind;
-    let next = put_verdict(out, next, wind);
-    let next = put(out, next, b" resist");
-    let next = put_figure(out, next, c.resistance);
-    let uplift = c.uplift;
-    put_uplift(out, next, uplift)
+    let wind = put_verdict(to.put(b"self wind"), c.wind);
+    put_uplift(wind.put(b" resist").put_figure(c.resistance), c.uplift)
 }
 
-fn put_pulls(out: &mut [u8], at: usize, c: AnchorChecks) -> usize
-    requires { at + 49 ≤ length out.old }
-    ensures upper_bound { result ≤ at + 49 }
-    ensures stored { Stored out.old at (line (pull_line c)) out.new result }
+fn put_pulls<'a>(to: Text<'a>, c: AnchorChecks) -> Text<'a>
+    requires { HasRoom to 49 }
+    ensures { Appends 49 to.entry (line (pull_line c)) result }
 {
-    let next = put(out, at, b"pull");
-    let next = put_signed(out, next, c.wind_pull);
-    let next = put_signed(out, next, c.quake_pull);
-    put(out, next, b"\n")
+    to.put(b"pull")
+        .put_signed(c.wind_pull)
+        .put_signed(c.quake_pull)
+        .put(b"\n")
 }
 
-fn put_anchors(out: &mut [u8], at: usize, c: AnchorChecks) -> usize
-    requires { at + 37 ≤ length out.old }
-    ensures upper_bound { result ≤ at + 37 }
-    ensures stored { Stored out.old at (line (anchor_line c)) out.new result }
+fn put_anchors<'a>(to: Text<'a>, c: AnchorChecks) -> Text<'a>
+    requires { HasRoom to 37 }
+    ensures { Appends 37 to.entry (line (anchor_line c)) result }
 {
-    let next = put(out, at, b"anchors spacing");
-    let spacing = c.spacing;
-    let next = put_verdict(out, next, spacing);
-    let next = put(out, next, b" strength");
-    let strength = c.strength;
-    let next = put_verdict(out, next, strength);
-    put(out, next, b"\n")
+    let spacing = put_verdict(to.put(b"anchors spacing"), c.spacing);
+    put_verdict(spacing.put(b" strength"), c.strength).put(b"\n")
 }
 
-fn put_anchored(out: &mut [u8], at: usize, c: AnchorChecks) -> usize
-    requires { at + 86 ≤ length out.old }
-    ensures upper_bound { result ≤ at + 86 }
-    ensures stored { Stored out.old at (text (pull_line c ∷ anchor_line c ∷ [])) out.new result }
-{
-    let next = put_pulls(out, at, c);
-    put_anchors(out, next, c)
-}
-
-fn put_standing(out: &mut [u8], at: usize, s: Standing) -> usize
-    requires { at + 86 ≤ length out.old }
-    ensures upper_bound { result ≤ at + 86 }
-    ensures stored { Stored out.old at (text (standing_lines s)) out.new result }
+fn put_standing<'a>(to: Text<'a>, s: Standing) -> Text<'a>
+    requires { HasRoom to 86 }
+    ensures { Appends 86 to.entry (text (standing_lines s)) result }
 {
     match s {
-        Standing::SelfAnchored(c) => put_self(out, at, c),
-        Standing::Anchored(c) => put_anchored(out, at, c),
+        Standing::SelfAnchored(c) => put_self(to, c),
+        Standing::Anchored(c) => put_anchors(put_pulls(to, c), c),
     }
 }
 
-fn put_tank(out: &mut [u8], at: usize, w: Word) -> usize
-    requires { at + 11 ≤ length out.old }
-    ensures upper_bound { result ≤ at + 11 }
-    ensures stored { Stored out.old at (line (tank_line w)) out.new result }
+fn put_tank<'a>(to: Text<'a>, w: Word) -> Text<'a>
+    requires { HasRoom to 11 }
+    ensures { Appends 11 to.entry (line (tank_line w)) result }
 {
     match w {
-        Word::Sound => put(out, at, b"tank sound\n"),
-        Word::Short => put(out, at, b"tank short\n"),
+        Word::Sound => to.put(b"tank sound\n"),
+        Word::Short => to.put(b"tank short\n"),
     }
 }
 
-fn put_report(out: &mut [u8], r: Report) -> usize
-    requires { most_text ≤ length out.old }
-    ensures upper_bound { result ≤ most_text }
-    ensures stored { Stored out.old 0 (text (report_lines r)) out.new result }
+fn put_report<'a>(to: Text<'a>, r: Report) -> Text<'a>
+    requires { HasRoom to most_text }
+    ensures { Appends most_text to.entry (text (report_lines r)) result }
 {
-    let lines = r.lines;
-    let next = put_courses(out, 0, lines, r.count);
-    let next = put_wind(out, next, r.pressure, r.moment);
-    let standing = r.standing;
-    let next = put_standing(out, next, standing);
-    let word = r.word;
-    put_tank(out, next, word)
+    let lines: &[CourseLine] = &r.lines;
+    let held = r.count.min(lines.len());
+    let courses = put_courses(to, &lines[..held]);
+    let wind = put_wind(courses, r.pressure, r.moment);
+    let standing = put_standing(wind, r.standing);
+    put_tank(standing, r.word)
 }
 
 // The refusal that prints its field: a field outside its range.
 const OUT_OF_RANGE: u32 = 16;
 
 // The number, and for 16 the field, each with a blank in front, and the line end.
-fn put_code(out: &mut [u8], at: usize, p: Code) -> usize
-    requires { at + 43 ≤ length out.old }
-    ensures upper_bound { result ≤ at + 43 }
-    ensures stored { Stored out.old at (more (map decimal (code_figures p))) out.new result }
+fn put_code<'a>(to: Text<'a>, p: Code) -> Text<'a>
+    requires { HasRoom to 43 }
+    ensures { Appends 43 to.entry (more (map decimal (code_figures p))) result }
 {
-    let next = put_figure(out, at, p.number as u64);
+    let number = to.put_figure(p.number as u64);
     if p.number == OUT_OF_RANGE {
-        let next = put_figure(out, next, p.field as u64);
-        return put(out, next, b"\n");
+        return number.put_figure(p.field as u64).put(b"\n");
     }
-    put(out, next, b"\n")
+    number.put(b"\n")
 }
 
-fn put_refusal(out: &mut [u8], refusal: Refusal) -> usize
-    requires { most_text ≤ length out.old }
-    ensures upper_bound { result ≤ most_text }
-    ensures stored { Stored out.old 0 (line (refusal_line (code_of refusal))) out.new result }
+fn put_refusal<'a>(to: Text<'a>, refusal: Refusal) -> Text<'a>
+    requires { HasRoom to most_text }
+    ensures { Appends most_text to.entry (line (refusal_line (code_of refusal))) result }
 {
-    let code = refusal.code();
-    let next = put(out, 0, b"refused");
-    put_code(out, next, code)
+    put_code(to.put(b"refused"), refusal.code())
+}
+
+fn put_judgement<'a>(to: Text<'a>, j: Judgement) -> Text<'a>
+    requires { HasRoom to most_text }
+    ensures { Appends most_text to.entry (text_of j) result }
+{
+    match j.answer {
+        Ok(()) => put_report(to, j.report),
+        Err(refusal) => put_refusal(to, refusal),
+    }
 }
 
 // The whole text, at the start of the buffer.
@@ -201,10 +166,16 @@ pub fn put_text(out: &mut [u8], j: Judgement) -> usize
     ensures upper_bound { result ≤ most_text }
     ensures stored { Stored out.old 0 (text_of j) out.new result }
 {
-    let answer = j.answer;
-    let report = j.report;
-    match answer {
-        Answer::Accepted => put_report(out, report),
-        Answer::Refused(refusal) => put_refusal(out, refusal),
-    }
+    let mut to = Text::new(out);
+    fill(&mut to, j);
+    to.written()
+}
+
+// Through a reference: of a text that is taken and handed back by value, a caller does not learn what the buffer holds when
+// the loan ends.
+fn fill(to: &mut Text<'_>, j: Judgement)
+    requires { HasRoom to.old most_text }
+    ensures { Appends most_text to.old (text_of j) to.new }
+{
+    *to = put_judgement(std::mem::take(to), j);
 }

@@ -1,3 +1,2 @@
 pub mod Ascii
-pub mod Each
 pub mod Pad

@@ -19,6 +19,5 @@ pub fn judge_bytes(bytes: &[u8]) -> Judgement
     ensures code { answer_code result.answer ≡ mark_code bytes.now }
     ensures justified { Justified D100 (entries_of (read_in bytes.now).sheet) result }
 {
-    let completed = complete::of_bytes(bytes);
-    judging::judge_completed(METHOD, completed)
+    judging::judge_completed(METHOD, complete::of_bytes(bytes))
 }

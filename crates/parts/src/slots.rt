@@ -1,81 +1,61 @@
 // The twelve slots for courses: those that are used, and those that are not.
-ghost use Rattle.std.specs.Prelude.{◌≡◌, ◌≤◌, take, drop};
-ghost use Rattle.entries.specs.Sheet.{height_of};
+ghost use Rattle.std.specs.Prelude.{◌≡◌, ◌≤◌, length, take, drop};
+ghost use Rattle.fields.specs.Order.{clear};
+ghost use Rattle.entries.specs.Sheet.{height_of, course_flaws, course_figures};
 ghost use Rattle.parts.specs.Parts.{blank, courses_clear, courses_blank, slots_reachable};
 
 use entries::{Course, MOST_COURSES, MOST_HEIGHT, flaws};
 
-// Whether the first n slots can be courses that were added in turn, and the others were never used.
+// Whether the first n slots can be courses that were added in turn, and the others were never used. An array and a
+// count, as a sheet has them: there is no heap.
+#[tactic(auto, unfolding(crate::specs::Parts::slots_reachable))]
 pub fn slots_reachable(courses: [Course; 12], n: usize) -> bool
     ensures { result ≡ slots_reachable courses n }
 {
     if MOST_COURSES < n {
         return false;
     }
-    if !courses_clear(courses, n) {
+    let held = &courses[..n];
+    if !courses_clear(held) {
         return false;
     }
-    if MOST_HEIGHT < height(courses, n) {
+    if MOST_HEIGHT < height(held) {
         return false;
     }
-    courses_blank(courses, n)
+    courses_blank(&courses[n..])
 }
 
-fn courses_clear(courses: [Course; 12], n: usize) -> bool
-    requires { n ≤ 12 }
-    ensures { result ≡ courses_clear (take n courses) }
+#[tactic(auto, unfolding(crate::specs::Parts::courses_clear))]
+fn courses_clear(courses: &[Course]) -> bool
+    ensures { result ≡ courses_clear courses.now }
 {
-    let mut i: usize = 0;
-    while i < n {
-        let c = courses[i];
-        if !flaws::course_flaw(c).accepts() {
-            return false;
-        }
-        i += 1;
-    }
-    true
+    courses.iter().all(|&c| is_clear(c))
 }
 
-// The height of the first n courses. It cannot overflow, whatever the widths.
-pub fn height(courses: [Course; 12], n: usize) -> u64
-    requires { n ≤ 12 }
-    ensures { result ≡ height_of (take n courses) }
+fn is_clear(c: Course) -> bool
+    ensures { result ≡ clear (course_flaws c) }
 {
-    let mut sum: u64 = 0;
-    let mut i: usize = 0;
-    while i < n {
-        let c = courses[i];
-        sum += c.width as u64;
-        i += 1;
-    }
-    sum
+    flaws::course_flaw(c).is_ok()
 }
 
-// Whether the slots from `from` on are blank.
-fn courses_blank(courses: [Course; 12], from: usize) -> bool
-    requires { from ≤ 12 }
-    ensures { result ≡ courses_blank (drop from courses) }
+// The height of these courses. It cannot overflow, whatever the widths.
+pub fn height(courses: &[Course]) -> u64
+    requires { length courses.now ≤ 12 }
+    ensures { result ≡ height_of courses.now }
 {
-    let mut i = from;
-    while i < MOST_COURSES {
-        let c = courses[i];
-        if !is_blank(&c.figures()) {
-            return false;
-        }
-        i += 1;
-    }
-    true
+    courses.iter().map(|c| u64::from(c.width)).sum()
 }
 
-fn is_blank(figures: &[u32]) -> bool
-    ensures { result ≡ blank figures.now }
+// Whether these slots are blank.
+#[tactic(auto, unfolding(crate::specs::Parts::courses_blank))]
+fn courses_blank(slots: &[Course]) -> bool
+    ensures { result ≡ courses_blank slots.now }
 {
-    let mut i: usize = 0;
-    while i < figures.len() {
-        if figures[i] != 0 {
-            return false;
-        }
-        i += 1;
-    }
-    true
+    slots.iter().all(|&c| is_blank(c))
+}
+
+fn is_blank(c: Course) -> bool
+    ensures { result ≡ blank (course_figures c) }
+{
+    c == Course::blank()
 }

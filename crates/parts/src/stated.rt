@@ -1,52 +1,47 @@
 // Tank, site and anchors beside a number of courses.
 ghost use Rattle.std.specs.Prelude.{◌≡◌};
+ghost use Rattle.fields.specs.Order.{clear};
+ghost use Rattle.entries.specs.Sheet.{tank_flaws};
 ghost use Rattle.parts.specs.Parts.{site_clear, anchors_clear, parts_reachable};
 
-use entries::{AnchorsEntry, SiteEntry, TankEntry, flaws};
+use entries::{Anchors, Site, Tank, flaws};
 
-// Whether tank, site and anchors can stand beside n courses.
-pub fn parts_reachable(tank: TankEntry, site: SiteEntry, anchors: AnchorsEntry, n: usize) -> bool
+// Whether tank, site and anchors can stand beside n courses. Before the tank no other step is accepted.
+pub fn parts_reachable(
+    tank: Option<Tank>,
+    site: Option<Site>,
+    anchors: Option<Anchors>,
+    n: usize,
+) -> bool
     ensures { result ≡ parts_reachable tank site anchors n }
 {
-    let TankEntry::Filled(t) = tank else {
-        return nothing_stated(site, anchors, n);
-    };
-    if !flaws::tank_flaw(t).accepts() {
-        return false;
+    match tank {
+        None => site.is_none() && anchors.is_none() && n == 0,
+        Some(t) => { tank_clear(t) && site_clear(site) && anchors_clear(t.diameter, anchors) }
     }
-    if !site_clear(site) {
-        return false;
-    }
-    anchors_clear(t.diameter, anchors)
 }
 
-// Before the tank no other step is accepted.
-fn nothing_stated(site: SiteEntry, anchors: AnchorsEntry, n: usize) -> bool
-    ensures { result ≡ parts_reachable TankEntry.Blank site anchors n }
+// Three alike in shape: each asks its own flaw, and one for all would be no shorter.
+fn tank_clear(t: Tank) -> bool
+    ensures { result ≡ clear (tank_flaws t) }
 {
-    let SiteEntry::Blank = site else {
-        return false;
-    };
-    let AnchorsEntry::Blank = anchors else {
-        return false;
-    };
-    n == 0
+    flaws::tank_flaw(t).is_ok()
 }
 
-fn site_clear(site: SiteEntry) -> bool
+fn site_clear(site: Option<Site>) -> bool
     ensures { result ≡ site_clear site }
 {
-    let SiteEntry::Filled(x) = site else {
-        return true;
-    };
-    flaws::site_flaw(x).accepts()
+    match site {
+        None => true,
+        Some(x) => flaws::site_flaw(x).is_ok(),
+    }
 }
 
-fn anchors_clear(diameter: u32, anchors: AnchorsEntry) -> bool
+fn anchors_clear(diameter: u32, anchors: Option<Anchors>) -> bool
     ensures { result ≡ anchors_clear diameter anchors }
 {
-    let AnchorsEntry::Filled(a) = anchors else {
-        return true;
-    };
-    flaws::anchors_flaw(diameter, a).accepts()
+    match anchors {
+        None => true,
+        Some(a) => flaws::anchors_flaw(diameter, a).is_ok(),
+    }
 }

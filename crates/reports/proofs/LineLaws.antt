@@ -1,5 +1,6 @@
 -- The laws of a report's lines, one course after the other.
 -- Assumes nothing.
+use Rattle.entries.proofs.CourseLaws.{height_cons}
 use mathlib.Core.Path.{◌≡◌, refl, sym, ap, ◌∙◌}
 use mathlib.Core.List.{List, [], ◌∷◌, ◌++◌}
 use Prim.Native.Nat.{ℕ, suc, ◌+◌, ◌<◌}
@@ -24,7 +25,7 @@ module _ (m : Method) (t : Tank) where
   lines_append y [] c = ap (λ (z : ℕ). line_of m t z c ∷ []) (sym (add-zero y))
   lines_append y (x ∷ xs) c =
       ap (λ (ls : List CourseLine). line_of m t y x ∷ ls)
-      (lines_append (y + x.width) xs c ∙ ap (λ (z : ℕ). lines_of m t (y + x.width) xs ++ line_of m t z c ∷ []) (add_assoc y x.width (height_of xs)))
+      (lines_append (y + x.width) xs c ∙ ap (λ (z : ℕ). lines_of m t (y + x.width) xs ++ line_of m t z c ∷ []) (add_assoc y x.width (height_of xs) ∙ ap (λ (z : ℕ). y + z) (sym (height_cons x xs))))
 
   -- one course more
   pub lines_next : (cs : List Course) (i : ℕ) → i < length cs

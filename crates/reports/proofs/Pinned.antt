@@ -10,7 +10,7 @@ use native.Mathlib.Omega.{arith}
 use lib.Dec.{T, leb, eqb}
 use mir.Facts.{and_yes, yes_and, or_yes, leb_yes, yes_leb}
 use borrow.Author.Tests.{eq-eqb, ne_eqb, eqb-true, eqb-false}
-use Rattle.lists.specs.Each.{each}
+use Rattle.std.specs.List.{list_all}
 use Rattle.lists.proofs.BoolLaws.{three_yes, yes_three}
 use Rattle.exact.specs.Quotient.{Ratio, whole, plus}
 use Rattle.fields.specs.Bolt.{stress_area}
@@ -202,10 +202,10 @@ module _ (method : Method) where
   edge_test d =
       meets_test method (margins_of (entries_of d.meets)) (entries_of d.meets) && not (meets_test method no_margins (entries_of d.breaks))
 
-  each_edge : (ds : List Edge) → T (each edge_test ds) → EachEdge method ds
+  each_edge : (ds : List Edge) → T (list_all edge_test ds) → EachEdge method ds
   each_edge [] k = tt
   each_edge (d ∷ ds) k =
-      let a = and_yes (edge_test d) (each edge_test ds) k in
+      let a = and_yes (edge_test d) (list_all edge_test ds) k in
       let inside = meets_test method (margins_of (entries_of d.meets)) (entries_of d.meets) in
       let outside = meets_test method no_margins (entries_of d.breaks) in
       let b = and_yes inside (not outside) a.0 in

@@ -1,6 +1,6 @@
 -- The cases that document 01 marks ◆: "The example tank" with the figures changed that the case names, and what its
 -- report then says, its earthquake pull by document 02, S-5; beside them the case of S-3. And the same tank with its anchors left out (S-1).
-use Rattle.std.specs.Prelude.{List, [], ◌∷◌, ℕ, ◌-◌, ℤ, pos, neg_ℤ, get_or, replicate}
+use Rattle.std.specs.Prelude.{List, [], ◌∷◌, ℕ, ◌-◌, ℤ, pos, neg_ℤ, get_or, replicate, Some, None}
 use Rattle.fields.specs.Refusal.{plain}
 use Rattle.fields.specs.declared.refusal.Code.{Code}
 use Rattle.stability.specs.Earthquake.{uplift_word}
@@ -10,9 +10,6 @@ use Rattle.fields.specs.Order.{answer_code}
 use Rattle.entries.specs.Sheet.{blank_course, no_anchors}
 use Rattle.entries.specs.declared.sheet.Anchors.{Anchors}
 use Rattle.entries.specs.declared.sheet.Course.{Course}
-use Rattle.entries.specs.declared.sheet.TankEntry as TankEntry
-use Rattle.entries.specs.declared.sheet.SiteEntry as SiteEntry
-use Rattle.entries.specs.declared.sheet.AnchorsEntry as AnchorsEntry
 use Rattle.entries.specs.declared.sheet.Sheet.{Sheet}
 use Rattle.reports.specs.Report.{blank_line}
 use Rattle.reports.specs.Judging.{judged}
@@ -28,9 +25,9 @@ abbrev pub example_with : ℕ → ℕ → Anchors → Sheet
 example_with v Ms a =
     let c : Course = record { width = 9600; plate = 250; allowance = 0; stress = 15000; efficiency = 85 } in
     record {
-      tank = TankEntry.TheVariants.Filled (record { diameter = 14400; level = 28800; weight = 11000; plate = 250; allowance = 0; fy = 36000 });
-      site = SiteEntry.TheVariants.Filled (record { speed = v; exposure = 109; importance = 115; vertical = 27; moment = Ms });
-      anchors = AnchorsEntry.TheVariants.Filled a;
+      tank = Some (record { diameter = 14400; level = 28800; weight = 11000; plate = 250; allowance = 0; fy = 36000 });
+      site = Some (record { speed = v; exposure = 109; importance = 115; vertical = 27; moment = Ms });
+      anchors = Some a;
       courses = c ∷ c ∷ c ∷ replicate 9 blank_course;
       count = 3;
     }
@@ -44,7 +41,7 @@ example = example_with 105 30000 (six_on 14800)
 -- and with its anchors left out
 abbrev pub example_unstated : Sheet
 example_unstated =
-    record { tank = example.tank; site = example.site; anchors = AnchorsEntry.TheVariants.Blank; courses = example.courses; count = example.count }
+    record { tank = example.tank; site = example.site; anchors = None; courses = example.courses; count = example.count }
 
 -- "The tank in source document 002 (12 ft across, 24 ft of water, 21,000 psi, efficiency 0.70, 8 ft steps)": the example's but for stress and
 -- efficiency; with a plate and an allowance of one's own

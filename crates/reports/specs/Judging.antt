@@ -1,19 +1,16 @@
 -- Judging a sheet by the method with a number n: document 01, "Order" and "Refusals that come from the state"; document 02, S-1 and S-3.
-use Rattle.std.specs.Prelude.{List, [], ◌∷◌, ℕ, ltb}
+use Rattle.std.specs.Prelude.{List, [], ◌∷◌, ℕ, ltb, Result, Ok, Err}
 use Rattle.fields.specs.declared.refusal.Code.{Code}
 use Rattle.fields.specs.declared.refusal.Refusal.{Refusal}
-use Rattle.fields.specs.declared.refusal.Refusal.TheVariants.{Unreachable, WaterAboveShell}
-use Rattle.fields.specs.Order.{Condition, ◌when◌, first_of, first_code}
-use Rattle.fields.specs.declared.answer.Answer.{Answer}
-use Rattle.fields.specs.declared.answer.Answer.TheVariants.{Accepted, Refused}
+use Rattle.fields.specs.declared.refusal.Refusal.TheVariants.{WaterAboveShell}
+use Rattle.fields.specs.Order.{Answer, Condition, ◌when◌, first_of, reply_unless, first_code}
 use Rattle.rules.specs.Method.{other_method, method_of}
 use Rattle.rules.specs.declared.method.Method.{Method}
 use Rattle.entries.specs.declared.sheet.Sheet.{Sheet}
-use Rattle.sheet.specs.Complete.{complete_order, entries_of, courses_of, order_after}
+use Rattle.sheet.specs.Complete.{complete_order, entries_of, courses_of, entries_in, order_after}
 use Rattle.sheet.specs.declared.complete.Entries.{Entries}
-use Rattle.sheet.specs.declared.complete.Completeness as Status
-use Rattle.sheet.specs.declared.complete.Completed.{Completed}
 use Rattle.reports.specs.Report.{blank_report, report_of}
+use Rattle.reports.specs.declared.report.Report.{Report}
 use Rattle.reports.specs.declared.report.Judgement.{Judgement}
 
 -- 37: "H above Hs"
@@ -25,39 +22,39 @@ abbrev pub judge_order : ℕ → Sheet → List Condition
 judge_order n s = complete_order s (other_method n ∷ []) (water_above (entries_of s) ∷ [])
 
 -- a report, or a refusal beside a blank one
+abbrev pub report_with : Method → Entries → Report
+report_with method e = report_of method e.tank e.site e.anchors (courses_of e)
+
 abbrev pub report_on : Method → Entries → Judgement
-report_on method e = record { answer = Accepted; report = report_of method e.tank e.site e.anchors (courses_of e) }
+report_on method e = record { answer = Ok tt; report = report_with method e }
 
 abbrev pub refused_for : Refusal → Judgement
-refused_for r = record { answer = Refused r; report = blank_report }
+refused_for r = record { answer = Err r; report = blank_report }
 
 abbrev pub unless_refused : Answer → Judgement → Judgement
-unless_refused Accepted j = j
-unless_refused (Refused r) j = refused_for r
+unless_refused (Ok u) j = j
+unless_refused (Err r) j = refused_for r
 
 unfoldable pub judged : ℕ → Sheet → Judgement
 judged n s = unless_refused (first_of (judge_order n s)) (report_on (method_of n) (entries_of s))
 
--- of the entries of a complete sheet, by a method
-unfoldable pub judged_entries : Method → Entries → Judgement
-judged_entries method e = unless_refused (first_of (water_above e ∷ [])) (report_on method e)
+-- of what a sheet is asked first, whose refusal stands for 30, 32, 35, 36 or 38 (`judged_completed_lem`: it comes to the same) or, from
+-- bytes, is one of reading
+abbrev pub completed_order : ℕ → Result Entries Refusal → List Condition
+completed_order n c = order_after c (other_method n ∷ []) (water_above (entries_in c) ∷ [])
 
--- of what a sheet is asked first, whose status stands for 30 and for 32, 35, 36, 38 (`judged_completed_lem`: it comes to the same) or, from
--- bytes, for a refusal of reading
-abbrev pub completed_order : ℕ → Completed → List Condition
-completed_order n c = order_after c.status (other_method n ∷ []) (water_above c.entries ∷ [])
+unfoldable pub judged_completed : ℕ → Result Entries Refusal → Judgement
+judged_completed n c = unless_refused (first_of (completed_order n c)) (report_on (method_of n) (entries_in c))
 
-unfoldable pub judged_completed : ℕ → Completed → Judgement
-judged_completed n c = unless_refused (first_of (completed_order n c)) (report_on (method_of n) c.entries)
+-- the report alone, or the refusal; and that of the entries of a complete sheet, by a method
+unfoldable pub report_for : ℕ → Result Entries Refusal → Result Report Refusal
+report_for n c = reply_unless (first_of (completed_order n c)) (report_with (method_of n) (entries_in c))
 
--- 30, or else this refusal
-abbrev pub after_thirty : Status.Completeness → Refusal → Refusal
-after_thirty Status.TheVariants.Unreachable r = Unreachable
-after_thirty (Status.TheVariants.Refused q) r = r
-after_thirty Status.TheVariants.Complete r = r
+unfoldable pub report_by : Method → Entries → Result Report Refusal
+report_by method e = reply_unless (first_of (water_above e ∷ [])) (report_with method e)
 
 -- the answer in the documents' numbers: of what is asked first, and of a sheet
-unfoldable pub completed_judge_code : ℕ → Completed → Code
+unfoldable pub completed_judge_code : ℕ → Result Entries Refusal → Code
 completed_judge_code n c = first_code (completed_order n c)
 
 unfoldable pub judge_code : ℕ → Sheet → Code

@@ -1,7 +1,7 @@
 -- What guards demand 3 on its weak side: a larger margin, an exact figure rounded within its margin, or a rule that asks more than document
 -- 01's would only weaken the claim, and the other proofs would not refuse it. So exact figures and margins stand at literal numbers on two
 -- tanks, and each exact rule has sheets at its edge.
-use Rattle.std.specs.Prelude.{List, [], ◌∷◌, ◌++◌, ℕ, ◌+◌, replicate}
+use Rattle.std.specs.Prelude.{List, [], ◌∷◌, ◌++◌, ℕ, ◌+◌, replicate, Some}
 use Rattle.exact.specs.Quotient.{Ratio, whole}
 use Rattle.rules.specs.declared.method.Method.{Method}
 use Rattle.rules.specs.declared.method.Method.TheVariants.{D100, Api650}
@@ -9,9 +9,6 @@ use Rattle.stability.specs.Earthquake.{shell_exact, cap_exact, root_most}
 use Rattle.entries.specs.Sheet.{no_anchors, blank_course, height_of}
 use Rattle.entries.specs.declared.sheet.Anchors.{Anchors}
 use Rattle.entries.specs.declared.sheet.Course.{Course}
-use Rattle.entries.specs.declared.sheet.TankEntry as TankEntry
-use Rattle.entries.specs.declared.sheet.SiteEntry as SiteEntry
-use Rattle.entries.specs.declared.sheet.AnchorsEntry as AnchorsEntry
 use Rattle.entries.specs.declared.sheet.Sheet.{Sheet}
 use Rattle.sheet.specs.Complete.{entries_of, courses_of}
 use Rattle.sheet.specs.declared.complete.Entries.{Entries}
@@ -28,9 +25,9 @@ n over d = record { num = n; den = d }
 abbrev pub second_with : ℕ → ℕ → ℕ → ℕ → Anchors → Sheet
 second_with W c t Ms a =
     record {
-      tank = TankEntry.TheVariants.Filled (record { diameter = 60001; level = 30000; weight = W; plate = 300; allowance = c; fy = 40000 });
-      site = SiteEntry.TheVariants.Filled (record { speed = 90; exposure = 100; importance = 100; vertical = 250; moment = Ms });
-      anchors = AnchorsEntry.TheVariants.Filled a;
+      tank = Some (record { diameter = 60001; level = 30000; weight = W; plate = 300; allowance = c; fy = 40000 });
+      site = Some (record { speed = 90; exposure = 100; importance = 100; vertical = 250; moment = Ms });
+      anchors = Some a;
       courses =
           record { width = 14400; plate = t; allowance = 20; stress = 20000; efficiency = 70 }
           ∷ record { width = 14400; plate = 260; allowance = 10; stress = 18000; efficiency = 85 }
@@ -176,9 +173,9 @@ pub record Edge : Type 0 where
 abbrev pub self_anchored : ℕ → ℕ → Sheet
 self_anchored W Ms =
     record {
-      tank = TankEntry.TheVariants.Filled (record { diameter = 14400; level = 28800; weight = W; plate = 250; allowance = 0; fy = 36000 });
+      tank = Some (record { diameter = 14400; level = 28800; weight = W; plate = 250; allowance = 0; fy = 36000 });
       site = (example_with 105 Ms no_anchors).site;
-      anchors = AnchorsEntry.TheVariants.Filled no_anchors;
+      anchors = Some no_anchors;
       courses = (example_with 105 Ms no_anchors).courses;
       count = 3;
     }
@@ -193,9 +190,9 @@ abbrev pub slender : ℕ → Sheet
 slender W =
     let c : Course = record { width = 12800; plate = 188; allowance = 0; stress = 15000; efficiency = 85 } in
     record {
-      tank = TankEntry.TheVariants.Filled (record { diameter = 12000; level = 1200; weight = W; plate = 250; allowance = 0; fy = 36000 });
-      site = SiteEntry.TheVariants.Filled (record { speed = 150; exposure = 150; importance = 125; vertical = 500; moment = 0 });
-      anchors = AnchorsEntry.TheVariants.Filled (record { number = 6; circle = 12000; size = 16 });
+      tank = Some (record { diameter = 12000; level = 1200; weight = W; plate = 250; allowance = 0; fy = 36000 });
+      site = Some (record { speed = 150; exposure = 150; importance = 125; vertical = 500; moment = 0 });
+      anchors = Some (record { number = 6; circle = 12000; size = 16 });
       courses = replicate 6 c ++ replicate 6 blank_course;
       count = 6;
     }

@@ -12,7 +12,7 @@ use Rattle.stability.specs.declared.earthquake.Uplift.TheVariants.{Over}
 use Rattle.rules.specs.declared.method.Method.{Method}
 use Rattle.rules.specs.declared.verdict.Verdict as Verdict
 use Rattle.entries.specs.Sheet.{height_of}
-use Rattle.lists.specs.Each.{each}
+use Rattle.std.specs.List.{list_all}
 use Rattle.lists.specs.Pad.{padded}
 use Rattle.entries.specs.declared.sheet.Tank.{Tank}
 use Rattle.entries.specs.declared.sheet.Site.{Site}
@@ -87,7 +87,7 @@ uses_of standing = record { first = used (checks_of standing).first; second = us
 
 -- "Sound: every course holds and the rules of its way of standing hold. Otherwise short."
 unfoldable pub courses_hold : List CourseLine → Bool
-courses_hold lines = each (λ line. holds line.verdict) lines
+courses_hold lines = list_all (λ line. holds line.verdict) lines
 
 unfoldable pub word_of : List CourseLine → Standing → Word
 word_of lines standing = cond (courses_hold lines && stands standing) Sound Short

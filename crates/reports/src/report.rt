@@ -3,13 +3,13 @@
 ghost use Rattle.std.specs.Prelude.{◌≡◌};
 ghost use Rattle.reports.specs.Report.{blank_line, blank_report};
 
-use fields::Answer;
+use fields::Refusal;
 use rules::verdict::Verdict;
 use stability::earthquake::Uplift;
 
 // One course: its hoop need without the allowance, the required plate and its plate, in mils. The use of
 // its verdict is required over plate.
-#[derive(Clone, Copy)]
+#[derive(Clone, Copy, Debug, PartialEq)]
 pub struct CourseLine {
     pub need: u64,
     pub required: u64,
@@ -18,7 +18,7 @@ pub struct CourseLine {
 }
 
 // A self-anchored tank; `resistance` is T in foot-pounds.
-#[derive(Clone, Copy)]
+#[derive(Clone, Copy, Debug, PartialEq)]
 pub struct SelfChecks {
     pub wind: Verdict,
     pub resistance: u64,
@@ -27,7 +27,7 @@ pub struct SelfChecks {
 }
 
 // An anchored tank; the net pulls per anchor are in pounds, up positive.
-#[derive(Clone, Copy)]
+#[derive(Clone, Copy, Debug, PartialEq)]
 pub struct AnchorChecks {
     pub wind_pull: i64,
     pub quake_pull: i64,
@@ -36,36 +36,36 @@ pub struct AnchorChecks {
 }
 
 // Whether the tank is self-anchored or anchored (document 01's way of standing), with nothing of the other.
-#[derive(Clone, Copy)]
+#[derive(Clone, Copy, Debug, PartialEq)]
 pub enum Standing {
     SelfAnchored(SelfChecks),
     Anchored(AnchorChecks),
 }
 
 // The two checks of its way of standing: wind and earthquake, or spacing and strength.
-#[derive(Clone, Copy)]
+#[derive(Clone, Copy, Debug, PartialEq)]
 pub struct Checks {
     pub first: Verdict,
     pub second: Verdict,
 }
 
 // The two uses of its way of standing: wind and earthquake, or spacing and strength.
-#[derive(Clone, Copy)]
+#[derive(Clone, Copy, Debug, PartialEq)]
 pub struct Uses {
     pub first: f64,
     pub second: f64,
 }
 
 // What the tank is called (document 01's word).
-#[derive(Clone, Copy)]
+#[derive(Clone, Copy, Debug, PartialEq, Eq)]
 pub enum Word {
     Sound,
     Short,
 }
 
-// A line for each course from the bottom up, `count` of them; the lines past them are blank. Pressure in
+// A line for each course from the bottom up, `count` of them; the lines past them are blank (there is no heap). Pressure in
 // hundredths of a psf, moment in foot-pounds.
-#[derive(Clone, Copy)]
+#[derive(Clone, Copy, Debug, PartialEq)]
 pub struct Report {
     pub lines: [CourseLine; 12],
     pub count: usize,
@@ -76,10 +76,11 @@ pub struct Report {
     pub word: Word,
 }
 
-// The answer to judging, and the report; beside a refusal the report is blank.
-#[derive(Clone, Copy)]
+// The answer to judging, and the report; beside a refusal the report is blank (document 01, "Where each form goes":
+// a report that holds an array sits in a struct beside the answer).
+#[derive(Clone, Copy, Debug, PartialEq)]
 pub struct Judgement {
-    pub answer: Answer,
+    pub answer: Result<(), Refusal>,
     pub report: Report,
 }
 

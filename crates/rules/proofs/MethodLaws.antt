@@ -5,20 +5,20 @@ use mathlib.Core.Bool.{Bool, true, false, not, cond, ◌||◌, true≢false}
 use mathlib.Core.List.{[], ◌∷◌, map}
 use mathlib.Core.Logic.{◌↔◌}
 use Prim.Native.Nat.{ℕ}
-use native.Mathlib.Omega.{arith}
 use lib.Dec.{eqb}
 use borrow.Author.Tests.{eqb-true}
 use Rattle.fields.specs.Refusal.{plain, code_of}
 use Rattle.fields.specs.declared.refusal.Refusal.{Refusal}
 use Rattle.fields.specs.declared.refusal.Refusal.TheVariants.{BadMethod}
-use Rattle.rules.specs.Method.{method_number, is_method, other_method, method_of, chosen_method, choice_code, method_code, ChosenExactly}
+use Rattle.std.specs.Prelude.{Result, Ok, Err}
+use Rattle.fields.specs.Order.{answer_code}
+use Rattle.fields.proofs.OrderLaws.{clash}
+use Rattle.rules.specs.Method.{method_number, is_method, other_method, method_of, chosen_method, method_code, ChosenExactly, Chosen}
 use Rattle.rules.specs.declared.method.Method.{Method}
 use Rattle.rules.specs.declared.method.Method.TheVariants.{D100, Api650}
-use Rattle.rules.specs.declared.method.MethodChoice.{MethodChoice}
-use Rattle.rules.specs.declared.method.MethodChoice.TheVariants.{Chosen, Refused}
 
 -- the numbers as document 02 has them, and those beside them
-pub numbered : map chosen_method (0 ∷ 1 ∷ 2 ∷ 3 ∷ []) ≡ Refused BadMethod ∷ Chosen D100 ∷ Chosen Api650 ∷ Refused BadMethod ∷ []
+pub numbered : map chosen_method (0 ∷ 1 ∷ 2 ∷ 3 ∷ []) ≡ Err BadMethod ∷ Ok D100 ∷ Ok Api650 ∷ Err BadMethod ∷ []
 unfolding chosen_method is_method method_of
 numbered = refl
 
@@ -57,31 +57,30 @@ pub chosen_exactly : (n : ℕ) → ChosenExactly n (chosen_method n)
 unfolding chosen_method
 chosen_exactly n m = (go (is_method n) refl, λ e. rw (e, is_method_lem m, method_of_lem m))
   where
-    go : (b : Bool) → is_method n ≡ b → cond b (Chosen (method_of n)) (Refused BadMethod) ≡ Chosen m → n ≡ method_number m
+    go : (b : Bool) → is_method n ≡ b → cond b (Ok (method_of n)) (Err BadMethod) ≡ Ok m → n ≡ method_number m
     go true e k = let j : method_of n ≡ m = cc in own_number n e ∙ ap method_number j
-    go false e k = absurd (omega (arith, ap (λ (c : MethodChoice). (choice_code c).number) k))
+    go false e k = clash k
 
-pub refused_is : (n : ℕ) {r : Refusal} → chosen_method n ≡ Refused r → (is_method n ≡ false) × (r ≡ BadMethod)
+pub refused_is : (n : ℕ) {r : Refusal} → chosen_method n ≡ Err r → (is_method n ≡ false) × (r ≡ BadMethod)
 unfolding chosen_method
 refused_is n {r} = go (is_method n)
   where
-    go : (b : Bool) → cond b (Chosen (method_of n)) (Refused BadMethod) ≡ Refused r → (b ≡ false) × (r ≡ BadMethod)
-    go true k = absurd (let z : ◌≡◌ {A = ℕ} 0 1 = cc in omega arith)
+    go : (b : Bool) → cond b (Ok (method_of n)) (Err BadMethod) ≡ Err r → (b ≡ false) × (r ≡ BadMethod)
+    go true k = clash (sym k)
     go false k = (refl, cc)
 
-choice_code_lem : (n : ℕ) → choice_code (chosen_method n) ≡ method_code n
+choice_code_lem : (n : ℕ) → answer_code (chosen_method n) ≡ method_code n
 unfolding chosen_method method_code
 choice_code_lem n = go (is_method n)
   where
-    go : (b : Bool) → choice_code (cond b (Chosen (method_of n)) (Refused BadMethod)) ≡ cond (not b) (code_of BadMethod) (plain 0)
+    go : (b : Bool) → answer_code (cond b (Ok (method_of n)) (Err BadMethod)) ≡ cond (not b) (code_of BadMethod) (plain 0)
     go true = refl
     go false = refl
 
--- the clauses of `method_of`
-pub choice_clauses : (n : ℕ) {choice : MethodChoice} → choice ≡ chosen_method n
-    → record { value : choice ≡ chosen_method n; code : choice_code choice ≡ method_code n; chosen_exactly : ChosenExactly n choice }
-choice_clauses n e = record {
+-- and so what is promised of it
+pub chosen : (n : ℕ) {choice : Result Method Refusal} → choice ≡ chosen_method n → Chosen n choice
+chosen n e = record {
   value = e;
-  code = ap choice_code e ∙ choice_code_lem n;
+  code = ap answer_code e ∙ choice_code_lem n;
   chosen_exactly = subst (ChosenExactly n) (sym e) (chosen_exactly n);
 }

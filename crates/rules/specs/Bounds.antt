@@ -18,6 +18,6 @@ most_required = 6906
 abbrev pub most_pressure : ℕ
 most_pressure = 6480
 
--- overturning moment (foot-pounds), of wind or earthquake
+-- overturning moment (foot-pounds), of wind or earthquake; asked for by a clause, since a moment is also a figure of a sheet
 abbrev pub most_moment : ℕ
 most_moment = (range 11).greatest

@@ -1,12 +1,11 @@
 -- Wind pressure and overturning moment: document 01, "The rules", Wind (AWWA D100: 0.00256 Kz I V², shape 0.60, at least 30 psf before
 -- shape). Pressure in hundredths of a psf, moment in foot-pounds. v stands for V, which is a word of the language.
-use Rattle.std.specs.Prelude.{cond, ℕ, ◌+◌, ◌*◌, max}
+use Rattle.std.specs.Prelude.{cond, ℕ, ◌+◌, ◌*◌, max, Result, Ok, Err}
 use Rattle.exact.specs.Quotient.{Ratio, up_of}
 use Rattle.fields.specs.Range.{range, within}
 use Rattle.fields.specs.Refusal.{code_of}
 use Rattle.fields.specs.declared.refusal.Refusal.TheVariants.{OutOfRange}
-use Rattle.rules.specs.declared.wind.SitePressure.{SitePressure}
-use Rattle.rules.specs.declared.wind.SitePressure.TheVariants.{Given, Refused}
+use Rattle.fields.specs.declared.refusal.Refusal.{Refusal}
 
 -- the exact pressure p: the larger of 6 × Kz × I × V × V / 390,625 and 1,800
 unfoldable pub pressure_exact : ℕ → ℕ → ℕ → Ratio
@@ -33,8 +32,8 @@ moment_margin D Hs = record { num = D * Hs * Hs + 345600000000; den = 3456000000
 abbrev pub by_speed : {A : Type 0} → ℕ → (ℕ → A) → A → A
 by_speed v given refused = cond (within (range 7) v) (given (pressure_of 109 115 v)) refused
 
-unfoldable pub standard_site : ℕ → SitePressure
-standard_site v = by_speed v Given (Refused (OutOfRange 7))
+unfoldable pub standard_site : ℕ → Result ℕ Refusal
+standard_site v = by_speed v Ok (Err (OutOfRange 7))
 
 -- What each case of the answer is by code: 0 and the pressure, or the refusal's number and field.
 pub record SiteCode : Type 0 where
@@ -44,9 +43,9 @@ pub record SiteCode : Type 0 where
 abbrev pub site_code : ℕ → ℕ → SiteCode
 site_code n x = record { number = n; value = x }
 
-abbrev pub site_code_of : SitePressure → SiteCode
-site_code_of (Given p) = site_code 0 p
-site_code_of (Refused r) = site_code (code_of r).number (code_of r).field
+abbrev pub site_code_of : Result ℕ Refusal → SiteCode
+site_code_of (Ok p) = site_code 0 p
+site_code_of (Err r) = site_code (code_of r).number (code_of r).field
 
 -- so, of the standard site: its pressure, or 16 with field 7
 unfoldable pub standard_code : ℕ → SiteCode

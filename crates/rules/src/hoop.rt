@@ -1,4 +1,5 @@
-// Hoop thickness of a course.
+// Hoop thickness of a course. `as` widens what goes into a product or a call: by `From` each answer has to rewrite by the
+// equation of each call (tried).
 ghost use Rattle.std.specs.Prelude.{◌≡◌, ◌≤◌};
 ghost use Rattle.fields.specs.Range.{In};
 ghost use Rattle.rules.specs.Bounds.{most_height, most_need, most_required};
@@ -9,19 +10,18 @@ use crate::method::Method;
 use crate::verdict::{Verdict, verdict_of};
 
 // The height of the water over a course's bottom edge, or 0.
+#[tactic(auto, unfolding(crate::specs::Hoop::head_of))]
 pub fn head(level: u32, edge: u32) -> u32
     ensures { result ≡ head_of level edge }
 {
-    if level < edge {
-        return 0;
-    }
-    level - edge
+    level.saturating_sub(edge)
 }
 
 // A foot in hundredths of an inch.
 const FOOT: u32 = 1200;
 
 // What stands for h in a method's formula: by API 650 h less a foot, or 0.
+#[tactic(auto, unfolding(crate::specs::Hoop::head_of, crate::specs::Hoop::design_head))]
 pub fn design_head(method: Method, h: u32) -> u32
     ensures { result ≡ design_head method h }
 {
@@ -63,12 +63,7 @@ pub fn required(need: u64, allowance: u32, diameter: u32) -> u64
     requires allowance_in { In 17 allowance }
     ensures { result ≡ required_plate need allowance diameter }
 {
-    let least = floor(diameter);
-    let thick = need + allowance as u64;
-    if thick < least {
-        return least;
-    }
-    thick
+    (need + u64::from(allowance)).max(floor(diameter))
 }
 
 // Whether the plate is at least the required one.

@@ -4,7 +4,7 @@ ghost use Rattle.exact.specs.Sides.{Sides};
 ghost use Rattle.rules.specs.Verdict.{verdict_of, holds, used, VerdictFor};
 
 // Whether the check holds or falls short, with its use.
-#[derive(Clone, Copy)]
+#[derive(Clone, Copy, Debug, PartialEq)]
 pub enum Verdict {
     Holds(f64),
     Short(f64),
@@ -27,19 +27,14 @@ impl Verdict {
     pub fn holds(self) -> bool
         ensures { result ≡ holds self }
     {
-        match self {
-            Verdict::Holds(_) => true,
-            Verdict::Short(_) => false,
-        }
+        matches!(self, Verdict::Holds(_))
     }
 
     // The use.
     pub fn used(self) -> f64
         ensures { result ≡ used self }
     {
-        match self {
-            Verdict::Holds(quotient) => quotient,
-            Verdict::Short(quotient) => quotient,
-        }
+        let (Verdict::Holds(quotient) | Verdict::Short(quotient)) = self;
+        quotient
     }
 }

@@ -1,4 +1,4 @@
-// Wind pressure and overturning moment.
+// Wind pressure and overturning moment. `as` widens, as in hoop.rt of `rules`.
 ghost use Rattle.std.specs.Prelude.{◌≡◌, ◌≤◌};
 ghost use Rattle.fields.specs.Range.{In};
 ghost use Rattle.rules.specs.Bounds.{most_height, most_pressure};
@@ -15,11 +15,7 @@ pub fn pressure(exposure: u32, importance: u32, speed: u32) -> u64
 {
     let v = speed as u64;
     let num = 6 * exposure as u64 * importance as u64 * v * v;
-    let p = exact::up(num, 390625);
-    if p < 1800 {
-        return 1800;
-    }
-    p
+    exact::up(num, 390625).max(1800)
 }
 
 // The overturning moment in foot-pounds of a pressure on a shell of this diameter and height.
@@ -33,20 +29,14 @@ pub fn moment(pressure: u64, diameter: u32, height: u32) -> u64
     exact::up(pressure * diameter as u64 * hs * hs, 345600000000)
 }
 
-// The pressure of the standard site (Kz 109, I 115), or the refusal of a speed outside the range of field 7.
-#[derive(Clone, Copy)]
-pub enum SitePressure {
-    Given(u64),
-    Refused(Refusal),
-}
-
-// The standard site's pressure, by the rule for any site.
-pub fn standard_site(speed: u32) -> SitePressure
+// The standard site's pressure (Kz 109, I 115), by the rule for any site. Refused: 16, for a speed outside the range of
+// field 7.
+pub fn standard_site(speed: u32) -> Result<u64, Refusal>
     ensures value { result ≡ standard_site speed }
     ensures code { site_code_of result ≡ standard_code speed }
 {
     if !fields::in_range(7, speed) {
-        return SitePressure::Refused(Refusal::OutOfRange(7));
+        return Err(Refusal::OutOfRange(7));
     }
-    SitePressure::Given(pressure(109, 115, speed))
+    Ok(pressure(109, 115, speed))
 }

@@ -1,6 +1,7 @@
 -- What the answers say: each order in the documents' numbers; which refusal a step, reading and writing answer, and when; refusal 30 by the
 -- runs of steps; the sheets that come back.
 -- Assumes nothing.
+use Rattle.std.specs.Prelude.{Result, Ok, Err}
 use mathlib.Core.Path.{◌≡◌, refl, sym, ap, ◌∙◌, subst}
 use mathlib.Core.Bool.{Bool, true, false, not, cond}
 use mathlib.Core.List.{List, [], ◌∷◌, ◌++◌}
@@ -16,15 +17,15 @@ use Rattle.fields.specs.declared.refusal.Code.{Code}
 use Rattle.fields.specs.declared.refusal.Refusal.{Refusal}
 use Rattle.fields.specs.declared.refusal.Refusal.TheVariants.{Unreachable}
 use Rattle.fields.proofs.RefusalLaws.{never_zero}
-use Rattle.fields.specs.Order.{Condition, first_of, First, answer_code, first_code, codes, sixteen}
-use Rattle.fields.specs.declared.answer.Answer.{Answer}
-use Rattle.fields.specs.declared.answer.Answer.TheVariants.{Accepted, Refused}
+use Rattle.fields.specs.Order.{Answer, Condition, first_of, reply_unless, First, answer_code, first_code, codes, sixteen}
 use Rattle.fields.proofs.OrderLaws.{clash, first_exactly, first_code_lem}
 use Rattle.entries.specs.Sheet.{empty_sheet, tank_flaws, site_flaws, anchor_flaws, course_flaws}
-use Rattle.sheet.specs.Steps.{Step, state_tank, state_site, state_anchors, add_course, order_of, applied, anchors_after, LeftByRun, reachable, unreachable, stated, unless, in_turn}
+use Rattle.sheet.specs.Steps.{order_of, applied, anchors_after, LeftByRun, reachable, unreachable, stated, unless, in_turn}
+use Rattle.sheet.specs.declared.steps.Step.{Step}
+use Rattle.sheet.specs.declared.steps.Step.TheVariants.{StateTank, StateSite, StateAnchors, AddCourse}
 use Rattle.sheet.specs.Complete.{incomplete, entries_of}
 use Rattle.sheet.specs.Writing.{size_of, no_room, write_order, write_reply, written, write_code, written_code}
-use Rattle.sheet.specs.Reading.{steps_in, read_in, with_height, unless_code, turn_code, read_code}
+use Rattle.sheet.specs.Reading.{steps_in, read_in, reading, with_height, unless_code, turn_code, read_code}
 use Rattle.entries.specs.declared.sheet.Tank.{Tank}
 use Rattle.entries.specs.declared.sheet.Site.{Site}
 use Rattle.entries.specs.declared.sheet.Anchors.{Anchors}
@@ -33,8 +34,7 @@ use Rattle.entries.specs.declared.sheet.Sheet.{Sheet}
 use Rattle.sheet.specs.declared.complete.Entries.{Entries}
 use Rattle.sheet.specs.declared.reading.Reading.{Reading}
 use Rattle.sheet.specs.declared.steps.Reply.{Reply}
-use Rattle.sheet.specs.declared.writing.Written as Written
-use Rattle.lists.specs.Each.{each}
+use Rattle.std.specs.List.{list_all}
 use Rattle.lists.proofs.BoolLaws.{T_true}
 use Rattle.layout.specs.Layout.{version1}
 use Rattle.layout.specs.Header.{read_order}
@@ -45,22 +45,22 @@ use Rattle.sheet.proofs.RebuildLaws.{left_exactly}
 -- ---- THE SIX ORDERS IN THE DOCUMENTS' NUMBERS
 
 module _ (s : Sheet) where
-  pub tank_order : (t : Tank) → codes (unreachable s ∷ order_of s (state_tank t))
+  pub tank_order : (t : Tank) → codes (unreachable s ∷ order_of s (StateTank t))
       ≡ plain 30 ∷ plain 31 ∷ sixteen 1 ∷ sixteen 2 ∷ sixteen 3 ∷ sixteen 4 ∷ sixteen 5 ∷ sixteen 6 ∷ plain 17 ∷ []
   unfolding tank_flaws
   tank_order t = refl
 
-  pub site_order : (x : Site) → codes (unreachable s ∷ order_of s (state_site x))
+  pub site_order : (x : Site) → codes (unreachable s ∷ order_of s (StateSite x))
       ≡ plain 30 ∷ plain 32 ∷ sixteen 7 ∷ sixteen 8 ∷ sixteen 9 ∷ sixteen 10 ∷ sixteen 11 ∷ []
   unfolding site_flaws
   site_order x = refl
 
-  pub anchors_order : (a : Anchors) → codes (unreachable s ∷ order_of s (state_anchors a))
+  pub anchors_order : (a : Anchors) → codes (unreachable s ∷ order_of s (StateAnchors a))
       ≡ plain 30 ∷ plain 32 ∷ sixteen 12 ∷ sixteen 13 ∷ sixteen 14 ∷ plain 18 ∷ []
   unfolding anchor_flaws
   anchors_order a = refl
 
-  pub course_order : (c : Course) → codes (unreachable s ∷ order_of s (add_course c))
+  pub course_order : (c : Course) → codes (unreachable s ∷ order_of s (AddCourse c))
       ≡ plain 30 ∷ plain 32 ∷ plain 33 ∷ sixteen 15 ∷ sixteen 16 ∷ sixteen 17 ∷ sixteen 18 ∷ sixteen 19 ∷ plain 17 ∷ plain 34 ∷ []
   unfolding course_flaws
   course_order c = refl
@@ -74,8 +74,8 @@ read_order_lem b = refl
 -- ---- the codes of the answers
 
 unless_code_lem : (a : Answer) (y : Reply) → answer_code (unless a y).answer ≡ unless_code (answer_code a) (answer_code y.answer)
-unless_code_lem Accepted y = refl
-unless_code_lem (Refused r) y = rw (never_zero r)
+unless_code_lem (Ok u) y = refl
+unless_code_lem (Err r) y = rw (never_zero r)
 
 turn_code_lem : (xs : List Step) (s : Sheet) → answer_code (in_turn s xs).answer ≡ turn_code s xs
 unfolding applied
@@ -98,23 +98,23 @@ write_code_lem s buf = go (first_of (write_order s (length buf))) (first_code_le
   where
     go : (a : Answer) {p : Code} → answer_code a ≡ p
         → write_code (write_reply a (entries_of s) buf).answer ≡ record { code = p; bytes = cond (eqb p.number 0) (size_of (entries_of s)) 0 }
-    go Accepted e = rw (← e)
-    go (Refused r) e = rw (← e, never_zero r)
+    go (Ok u) e = rw (← e)
+    go (Err r) e = rw (← e, never_zero r)
 
 -- ---- WHICH REFUSAL IS ANSWERED, AND WHEN: the law of every order, at the answers of the public functions
 
-pub stated_exactly : (s : Sheet) (x : Step) (r : Refusal) → ((stated s x).answer ≡ Refused r) ↔ First (unreachable s ∷ order_of s x) r
+pub stated_exactly : (s : Sheet) (x : Step) (r : Refusal) → ((stated s x).answer ≡ Err r) ↔ First (unreachable s ∷ order_of s x) r
 unfolding stated
 stated_exactly s x r = first_exactly (unreachable s ∷ order_of s x) r
 
 written_as : (a : Answer) (e : Entries) (buf : List ℕ) (r : Refusal)
-    → ((write_reply a e buf).answer ≡ Written.TheVariants.Refused r) ↔ (a ≡ Refused r)
-written_as Accepted e buf r =
+    → ((write_reply a e buf).answer ≡ Err r) ↔ (a ≡ Err r)
+written_as (Ok u) e buf r =
     ((λ e. absurd (let z : ◌≡◌ {A = ℕ} 0 1 = cc in omega arith)), λ e. clash (sym e))
-written_as (Refused q) e buf r = ((λ e. let k : q ≡ r = cc in ap Refused k), λ e. let k : q ≡ r = cc in ap Written.TheVariants.Refused k)
+written_as (Err q) e buf r = ((λ e. let k : q ≡ r = cc in ap Err k), λ e. let k : q ≡ r = cc in ap Err k)
 
 pub written_exactly : (s : Sheet) (buf : List ℕ) (r : Refusal)
-    → ((written s buf).answer ≡ Written.TheVariants.Refused r) ↔ First (write_order s (length buf)) r
+    → ((written s buf).answer ≡ Err r) ↔ First (write_order s (length buf)) r
 unfolding written
 written_exactly s buf r =
     let w = written_as (first_of (write_order s (length buf))) (entries_of s) buf r in
@@ -122,23 +122,23 @@ written_exactly s buf r =
     (λ e. f.0 (w.0 e), λ k. w.1 (f.1 k))
 
 pub read_exactly : (b : List ℕ) (r : Refusal)
-    → ((read_in b).answer ≡ Refused r)
-    ↔ (First (read_order version1 b) r ⊎ ((first_of (read_order version1 b) ≡ Accepted) × ((in_turn empty_sheet (steps_in version1 b)).answer ≡ Refused r)))
+    → ((read_in b).answer ≡ Err r)
+    ↔ (First (read_order version1 b) r ⊎ ((first_of (read_order version1 b) ≡ Ok tt) × ((in_turn empty_sheet (steps_in version1 b)).answer ≡ Err r)))
 unfolding read_in
 read_exactly b r = go (first_of (read_order version1 b)) refl
   where
     go : (a : Answer) → first_of (read_order version1 b) ≡ a
-        → ((unless a (in_turn empty_sheet (steps_in version1 b))).answer ≡ Refused r)
-        ↔ (First (read_order version1 b) r ⊎ ((first_of (read_order version1 b) ≡ Accepted) × ((in_turn empty_sheet (steps_in version1 b)).answer ≡ Refused r)))
-    go Accepted e = ((λ f. inr (e, f)), back)
+        → ((unless a (in_turn empty_sheet (steps_in version1 b))).answer ≡ Err r)
+        ↔ (First (read_order version1 b) r ⊎ ((first_of (read_order version1 b) ≡ Ok tt) × ((in_turn empty_sheet (steps_in version1 b)).answer ≡ Err r)))
+    go (Ok u) e = ((λ f. inr (e, f)), back)
       where
-        back : First (read_order version1 b) r ⊎ ((first_of (read_order version1 b) ≡ Accepted) × ((in_turn empty_sheet (steps_in version1 b)).answer ≡ Refused r))
-            → (in_turn empty_sheet (steps_in version1 b)).answer ≡ Refused r
+        back : First (read_order version1 b) r ⊎ ((first_of (read_order version1 b) ≡ Ok tt) × ((in_turn empty_sheet (steps_in version1 b)).answer ≡ Err r))
+            → (in_turn empty_sheet (steps_in version1 b)).answer ≡ Err r
         back (inl f) = clash (sym ((first_exactly (read_order version1 b) r).1 f) ∙ e)
         back (inr f) = f.1
-    go (Refused q) e = ((λ f. inl ((first_exactly (read_order version1 b) r).0 (e ∙ f))), back)
+    go (Err q) e = ((λ f. inl ((first_exactly (read_order version1 b) r).0 (e ∙ f))), back)
       where
-        back : First (read_order version1 b) r ⊎ ((first_of (read_order version1 b) ≡ Accepted) × ((in_turn empty_sheet (steps_in version1 b)).answer ≡ Refused r)) → Refused q ≡ Refused r
+        back : First (read_order version1 b) r ⊎ ((first_of (read_order version1 b) ≡ Ok tt) × ((in_turn empty_sheet (steps_in version1 b)).answer ≡ Err r)) → ◌≡◌ {A = Answer} (Err q) (Err r)
         back (inl f) = sym e ∙ (first_exactly (read_order version1 b) r).1 f
         back (inr f) = clash (sym e ∙ f.0)
 
@@ -148,36 +148,36 @@ read_exactly b r = go (first_of (read_order version1 b)) refl
 abbrev pub other_than : Refusal → Condition → Bool
 other_than r c = not (eqb (code_of c.refusal).number (code_of r).number)
 
-pub never_answered : (r : Refusal) (cs : List Condition) → T (each (other_than r) cs) → first_of cs ≡ Refused r → ⊥
+pub never_answered : (r : Refusal) (cs : List Condition) → T (list_all (other_than r) cs) → first_of cs ≡ Err r → ⊥
 never_answered r [] h e = clash (sym e)
-never_answered r (c ∷ cs) h e = go c.applies (and_yes (other_than r c) (each (other_than r) cs) h) (never_answered r cs) e
+never_answered r (c ∷ cs) h e = go c.applies (and_yes (other_than r c) (list_all (other_than r) cs) h) (never_answered r cs) e
   where
-    go : (b : Bool) → T (other_than r c) × T (each (other_than r) cs) → (T (each (other_than r) cs) → first_of cs ≡ Refused r → ⊥)
-        → cond b (Refused c.refusal) (first_of cs) ≡ Refused r → ⊥
+    go : (b : Bool) → T (other_than r c) × T (list_all (other_than r) cs) → (T (list_all (other_than r) cs) → first_of cs ≡ Err r → ⊥)
+        → cond b (Err c.refusal) (first_of cs) ≡ Err r → ⊥
     go true h f e =
         let k : c.refusal ≡ r = cc in
         subst T (ap not (eq-eqb (code_of r).number (code_of r).number refl)) (subst (λ (q : Refusal). T (not (eqb (code_of q).number (code_of r).number))) k h.0)
     go false h f e = f h.1 e
 
-pub thirty_first : (s : Sheet) (cs : List Condition) → T (each (other_than Unreachable) cs) → (first_of (unreachable s ∷ cs) ≡ Refused Unreachable) ↔ (LeftByRun s → ⊥)
+pub thirty_first : (s : Sheet) (cs : List Condition) → T (list_all (other_than Unreachable) cs) → (first_of (unreachable s ∷ cs) ≡ Err Unreachable) ↔ (LeftByRun s → ⊥)
 thirty_first s cs h = go (reachable s) refl
   where
-    go : (b : Bool) → reachable s ≡ b → (cond (not b) (Refused Unreachable) (first_of cs) ≡ Refused Unreachable) ↔ (LeftByRun s → ⊥)
+    go : (b : Bool) → reachable s ≡ b → (cond (not b) (Err Unreachable) (first_of cs) ≡ Err Unreachable) ↔ (LeftByRun s → ⊥)
     go true e = ((λ f. absurd (never_answered Unreachable cs h f)), λ n. absurd (n ((left_exactly s).0 (subst T (sym e) tt))))
     go false e = ((λ f l. subst T e ((left_exactly s).1 l)), λ n. refl)
 
-step_others : (s : Sheet) (x : Step) → T (each (other_than Unreachable) (order_of s x))
+step_others : (s : Sheet) (x : Step) → T (list_all (other_than Unreachable) (order_of s x))
 unfolding tank_flaws site_flaws anchor_flaws course_flaws
-step_others s (state_tank t) = tt
-step_others s (state_site x) = tt
-step_others s (state_anchors a) = tt
-step_others s (add_course c) = tt
+step_others s (StateTank t) = tt
+step_others s (StateSite x) = tt
+step_others s (StateAnchors a) = tt
+step_others s (AddCourse c) = tt
 
-pub thirty_exactly : (s : Sheet) (x : Step) → ((stated s x).answer ≡ Refused Unreachable) ↔ (LeftByRun s → ⊥)
+pub thirty_exactly : (s : Sheet) (x : Step) → ((stated s x).answer ≡ Err Unreachable) ↔ (LeftByRun s → ⊥)
 unfolding stated
 thirty_exactly s x = thirty_first s (order_of s x) (step_others s x)
 
-pub thirty_written : (s : Sheet) (buf : List ℕ) → ((written s buf).answer ≡ Written.TheVariants.Refused Unreachable) ↔ (LeftByRun s → ⊥)
+pub thirty_written : (s : Sheet) (buf : List ℕ) → ((written s buf).answer ≡ Err Unreachable) ↔ (LeftByRun s → ⊥)
 unfolding written
 thirty_written s buf =
     let w = written_as (first_of (write_order s (length buf))) (entries_of s) buf Unreachable in
@@ -198,17 +198,22 @@ read_sheet_reachable b = go (first_of (read_order version1 b))
     in_turn_lem (x ∷ xs) s h = each_turn (applied s x).answer (in_turn_lem xs (applied s x).sheet (reply_reachable s x (applied s x) refl h))
       where
         each_turn : (a : Answer) → T (reachable (in_turn (applied s x).sheet xs).sheet) → T (reachable (unless a (in_turn (applied s x).sheet xs)).sheet)
-        each_turn Accepted f = f
-        each_turn (Refused r) f = empty_reachable
+        each_turn (Ok u) f = f
+        each_turn (Err r) f = empty_reachable
 
     go : (a : Answer) → T (reachable (unless a (in_turn empty_sheet (steps_in version1 b))).sheet)
-    go Accepted = in_turn_lem (steps_in version1 b) empty_sheet empty_reachable
-    go (Refused r) = empty_reachable
+    go (Ok u) = in_turn_lem (steps_in version1 b) empty_sheet empty_reachable
+    go (Err r) = empty_reachable
 
 -- ---- the clauses of the contracts of reading with the height, and of a step
 
-pub height_clauses : (b : List ℕ) {y : Reading} → y ≡ with_height (read_in b) → (y ≡ with_height (read_in b)) × (answer_code y.answer ≡ read_code b)
-height_clauses b e = (e, ap (λ (z : Reading). answer_code z.answer) e ∙ read_code_lem b)
+pub height_clauses : (b : List ℕ) {y : Result Reading Refusal} → y ≡ with_height (read_in b)
+    → (y ≡ with_height (read_in b)) × (answer_code y ≡ read_code b)
+height_clauses b e = (e, ap answer_code e ∙ go (read_in b).answer ∙ read_code_lem b)
+  where
+    go : (a : Answer) → answer_code (reply_unless a (reading (read_in b).sheet)) ≡ answer_code a
+    go (Ok u) = refl
+    go (Err r) = refl
 
 pub stated_clauses : (s : Sheet) (x : Step) {y : Reply} → y ≡ stated s x
     → (y ≡ stated s x)

@@ -1,6 +1,10 @@
 -- What the test `reachable` says of a sheet, and that every step keeps it (`step_reachable`, `run_reachable`). That it passes exactly the
 -- sheets that some run of steps leaves is in RebuildLaws.
 -- Assumes nothing.
+use Rattle.entries.specs.declared.sheet.Tank.{Tank}
+use Rattle.entries.specs.declared.sheet.Site.{Site}
+use Rattle.entries.specs.declared.sheet.Anchors.{Anchors}
+use Rattle.std.specs.Prelude.{Option, Some, None, Ok, Err}
 use mathlib.Core.Path.{◌≡◌, refl, sym, ◌∙◌, subst}
 use mathlib.Core.Bool.{Bool, true, false, not, ◌&&◌}
 use mathlib.Core.List.{List, [], ◌∷◌, ◌++◌}
@@ -9,25 +13,22 @@ use native.Mathlib.Numerals.{add-one}
 use native.Mathlib.Omega.{arith}
 use lib.Dec.{T, leb, eqb}
 use lib.ListN.{length, get_or, take, drop, set, length-set}
+use Rattle.std.proofs.lemmas.List.Folds.{list_all-append}
 use lib.Seq.{drop-set-lt, drop-cons}
 use mir.Facts.{and_yes, yes_and, leb_yes, yes_leb, eqb_yes, yes_eqb}
 use borrow.Author.Tests.{leb-false, ltb-false}
 use Rattle.fields.specs.declared.refusal.Refusal.TheVariants.{TankStated, NoTank, CoursesFull}
-use Rattle.fields.specs.Order.{◌when◌, first_of, clear}
-use Rattle.fields.specs.declared.answer.Answer.{Answer}
-use Rattle.fields.specs.declared.answer.Answer.TheVariants.{Accepted, Refused}
+use Rattle.fields.specs.Order.{Answer, ◌when◌, first_of, clear}
 use Rattle.fields.proofs.OrderLaws.{clash, accepted_clear, first_cons, first_append}
 use Rattle.entries.specs.Sheet.{too_high, course_figures, blank_course, empty_sheet, held, height_of, tank_flaws, site_flaws, anchor_flaws, course_flaws, tank_of}
 use Rattle.parts.specs.Parts.{blank, site_blank, site_clear, anchors_blank, anchors_clear, courses_clear, courses_blank, slots_reachable, parts_reachable}
-use Rattle.sheet.specs.Steps.{Step, state_tank, state_site, state_anchors, add_course, tank_blank, order_of, filled, replied, applied, run, reachable}
+use Rattle.sheet.specs.Steps.{tank_blank, order_of, filled, replied, applied, run, reachable}
+use Rattle.sheet.specs.declared.steps.Step.{Step}
+use Rattle.sheet.specs.declared.steps.Step.TheVariants.{StateTank, StateSite, StateAnchors, AddCourse}
 use Rattle.entries.specs.declared.sheet.Course.{Course}
-use Rattle.entries.specs.declared.sheet.TankEntry as TankEntry
-use Rattle.entries.specs.declared.sheet.SiteEntry as SiteEntry
-use Rattle.entries.specs.declared.sheet.AnchorsEntry as AnchorsEntry
 use Rattle.entries.specs.declared.sheet.Sheet.{Sheet}
 use Rattle.sheet.specs.declared.steps.Reply.{Reply}
 use Rattle.lists.proofs.BoolLaws.{three_yes, yes_three}
-use Rattle.lists.proofs.EachLaws.{append_each}
 use Rattle.entries.proofs.CourseLaws.{take_set, height_append}
 
 -- ---- what the test says
@@ -76,13 +77,13 @@ module _ (s : Sheet) where
 -- ---- every step keeps it
 
 -- a site and anchors that are not stated
-pub site_blank_lem : (x : SiteEntry.SiteEntry) → T (site_blank x) → x ≡ SiteEntry.TheVariants.Blank
-site_blank_lem SiteEntry.TheVariants.Blank h = refl
-site_blank_lem (SiteEntry.TheVariants.Filled x) h = absurd h
+pub site_blank_lem : (x : Option Site) → T (site_blank x) → x ≡ None
+site_blank_lem None h = refl
+site_blank_lem (Some x) h = absurd h
 
-pub anchors_blank_lem : (a : AnchorsEntry.AnchorsEntry) → T (anchors_blank a) → a ≡ AnchorsEntry.TheVariants.Blank
-anchors_blank_lem AnchorsEntry.TheVariants.Blank h = refl
-anchors_blank_lem (AnchorsEntry.TheVariants.Filled a) h = absurd h
+pub anchors_blank_lem : (a : Option Anchors) → T (anchors_blank a) → a ≡ None
+anchors_blank_lem None h = refl
+anchors_blank_lem (Some a) h = absurd h
 
 -- one course more
 course_slots : (cs : List Course) (n : ℕ) (c : Course) → Slots cs n → n < 12 → T (clear (course_flaws c))
@@ -93,76 +94,77 @@ course_slots cs n c s h k l =
     record {
       twelve = length-set cs n c ∙ s.twelve;
       few = omega arith;
-      clear = rw e (append_each (λ x. clear (course_flaws x)) (take n cs) (c ∷ []) s.clear (yes_and (clear (course_flaws c)) true k tt));
+      clear = rw (e, list_all-append (λ x. clear (course_flaws x)) (take n cs) (c ∷ []))
+          (yes_and (courses_clear (take n cs)) (clear (course_flaws c) && true) s.clear (yes_and (clear (course_flaws c)) true k tt));
       low = rw e (omega (arith, height_append (take n cs) (c ∷ [])));
       rest = rw (add-one n, drop-set-lt (suc n) cs n c (omega arith)) (and_yes (blank (course_figures (get_or cs n blank_course))) (courses_blank (drop (suc n) cs)) (rw (drop-cons cs n blank_course (omega (arith, s.twelve))) at s.rest)).1;
     }
 
 -- what the first condition of an order says of the tank
-tank_entry_blank : (e : TankEntry.TankEntry) → not (tank_blank e) ≡ false → e ≡ TankEntry.TheVariants.Blank
-tank_entry_blank TankEntry.TheVariants.Blank h = refl
-tank_entry_blank (TankEntry.TheVariants.Filled t) h = absurd (subst T h tt)
+tank_entry_blank : (e : Option Tank) → not (tank_blank e) ≡ false → e ≡ None
+tank_entry_blank None h = refl
+tank_entry_blank (Some t) h = absurd (subst T h tt)
 
 -- an entry that is filled in, and so no longer blank
 pub record Held {E A : Type 0} (fill : A → E) (e : E) : Type 0 where
   pub entry : A
   pub is : e ≡ fill entry
 
-pub tank_held : (e : TankEntry.TankEntry) → tank_blank e ≡ false → Held TankEntry.TheVariants.Filled e
-tank_held TankEntry.TheVariants.Blank h = absurd (subst T h tt)
-tank_held (TankEntry.TheVariants.Filled t) h = record { entry = t; is = refl }
+pub tank_held : (e : Option Tank) → tank_blank e ≡ false → Held Some e
+tank_held None h = absurd (subst T h tt)
+tank_held (Some t) h = record { entry = t; is = refl }
 
-pub site_held : (e : SiteEntry.SiteEntry) → site_blank e ≡ false → Held SiteEntry.TheVariants.Filled e
-site_held SiteEntry.TheVariants.Blank h = absurd (subst T h tt)
-site_held (SiteEntry.TheVariants.Filled x) h = record { entry = x; is = refl }
+pub site_held : (e : Option Site) → site_blank e ≡ false → Held Some e
+site_held None h = absurd (subst T h tt)
+site_held (Some x) h = record { entry = x; is = refl }
 
-pub anchors_held : (e : AnchorsEntry.AnchorsEntry) → anchors_blank e ≡ false → Held AnchorsEntry.TheVariants.Filled e
-anchors_held AnchorsEntry.TheVariants.Blank h = absurd (subst T h tt)
-anchors_held (AnchorsEntry.TheVariants.Filled a) h = record { entry = a; is = refl }
+pub anchors_held : (e : Option Anchors) → anchors_blank e ≡ false → Held Some e
+anchors_held None h = absurd (subst T h tt)
+anchors_held (Some a) h = record { entry = a; is = refl }
 
 module _ (s : Sheet) (h : T (reachable s)) where
   parts : T (parts_reachable s.tank s.site s.anchors s.count)
   parts = (reach_halves s h).1
 
-  pub parts_held : (d : Held TankEntry.TheVariants.Filled s.tank) → T (clear (tank_flaws d.entry)) × T (site_clear s.site) × T (anchors_clear d.entry.diameter s.anchors)
+  pub parts_held : (d : Held Some s.tank) → T (clear (tank_flaws d.entry)) × T (site_clear s.site) × T (anchors_clear d.entry.diameter s.anchors)
   parts_held d =
       three_yes (clear (tank_flaws d.entry)) (site_clear s.site) (anchors_clear d.entry.diameter s.anchors)
-      (subst (λ (e : TankEntry.TankEntry). T (parts_reachable e s.site s.anchors s.count)) d.is parts)
+      (subst (λ (e : Option Tank). T (parts_reachable e s.site s.anchors s.count)) d.is parts)
 
-  held_parts : (d : Held TankEntry.TheVariants.Filled s.tank) (x : SiteEntry.SiteEntry) (a : AnchorsEntry.AnchorsEntry) (n : ℕ) → T (site_clear x) → T (anchors_clear d.entry.diameter a)
+  held_parts : (d : Held Some s.tank) (x : Option Site) (a : Option Anchors) (n : ℕ) → T (site_clear x) → T (anchors_clear d.entry.diameter a)
       → T (parts_reachable s.tank x a n)
   held_parts d x a n y z =
-      subst (λ (e : TankEntry.TankEntry). T (parts_reachable e x a n)) (sym d.is)
+      subst (λ (e : Option Tank). T (parts_reachable e x a n)) (sym d.is)
       (yes_three (clear (tank_flaws d.entry)) (site_clear x) (anchors_clear d.entry.diameter a) (parts_held d).0 y z)
 
-  pub filled_reachable : (x : Step) → first_of (order_of s x) ≡ Accepted → T (reachable (filled s x))
-  filled_reachable (state_tank t) e =
+  pub filled_reachable : (x : Step) → first_of (order_of s x) ≡ Ok tt → T (reachable (filled s x))
+  filled_reachable (StateTank t) e =
       let o = first_cons (TankStated when not (tank_blank s.tank)) (tank_flaws t) e in
       let b = three_yes (site_blank s.site) (anchors_blank s.anchors) (eqb s.count 0)
-      (subst (λ (e : TankEntry.TankEntry). T (parts_reachable e s.site s.anchors s.count)) (tank_entry_blank s.tank o.0) parts) in
-      halves_reach (filled s (state_tank t)) (reach_slots s h)
+      (subst (λ (e : Option Tank). T (parts_reachable e s.site s.anchors s.count)) (tank_entry_blank s.tank o.0) parts) in
+      halves_reach (filled s (StateTank t)) (reach_slots s h)
       (yes_three (clear (tank_flaws t)) (site_clear s.site) (anchors_clear t.diameter s.anchors)
       (accepted_clear (tank_flaws t) o.1)
-      (subst (λ (x : SiteEntry.SiteEntry). T (site_clear x)) (sym (site_blank_lem s.site b.0)) tt)
-      (subst (λ (a : AnchorsEntry.AnchorsEntry). T (anchors_clear t.diameter a)) (sym (anchors_blank_lem s.anchors b.1)) tt))
-  filled_reachable (state_site x) e =
+      (subst (λ (x : Option Site). T (site_clear x)) (sym (site_blank_lem s.site b.0)) tt)
+      (subst (λ (a : Option Anchors). T (anchors_clear t.diameter a)) (sym (anchors_blank_lem s.anchors b.1)) tt))
+  filled_reachable (StateSite x) e =
       let o = first_cons (NoTank when tank_blank s.tank) (site_flaws x) e in
       let d = tank_held s.tank o.0 in
-      halves_reach (filled s (state_site x)) (reach_slots s h)
-      (held_parts d (SiteEntry.TheVariants.Filled x) s.anchors s.count (accepted_clear (site_flaws x) o.1) (parts_held d).2)
-  filled_reachable (state_anchors a) e =
+      halves_reach (filled s (StateSite x)) (reach_slots s h)
+      (held_parts d (Some x) s.anchors s.count (accepted_clear (site_flaws x) o.1) (parts_held d).2)
+  filled_reachable (StateAnchors a) e =
       let o = first_cons (NoTank when tank_blank s.tank) (anchor_flaws (tank_of s.tank).diameter a) e in
       let d = tank_held s.tank o.0 in
-      halves_reach (filled s (state_anchors a)) (reach_slots s h)
-      (held_parts d s.site (AnchorsEntry.TheVariants.Filled a) s.count (parts_held d).1
-      (accepted_clear (anchor_flaws d.entry.diameter a) (subst (λ (e : TankEntry.TankEntry). first_of (anchor_flaws (tank_of e).diameter a) ≡ Accepted) d.is o.1)))
-  filled_reachable (add_course c) e =
+      halves_reach (filled s (StateAnchors a)) (reach_slots s h)
+      (held_parts d s.site (Some a) s.count (parts_held d).1
+      (accepted_clear (anchor_flaws d.entry.diameter a) (subst (λ (e : Option Tank). first_of (anchor_flaws (tank_of e).diameter a) ≡ Ok tt) d.is o.1)))
+  filled_reachable (AddCourse c) e =
       let high = too_high (height_of (held s)) c in
       let o = first_cons (NoTank when tank_blank s.tank) ((CoursesFull when leb 12 s.count) ∷ (course_flaws c ++ high ∷ [])) e in
       let f = first_cons (CoursesFull when leb 12 s.count) (course_flaws c ++ high ∷ []) o.1 in
       let g = first_append (course_flaws c) (high ∷ []) f.1 in
       let d = tank_held s.tank o.0 in
-      halves_reach (filled s (add_course c))
+      halves_reach (filled s (AddCourse c))
       (course_slots s.courses s.count c (reach_slots s h) (leb-false 12 s.count f.0) (accepted_clear (course_flaws c) g.0) (ltb-false 76800 (height_of (held s) + c.width) (first_cons high [] g.1).0))
       (held_parts d s.site s.anchors (s.count + 1) (parts_held d).1 (parts_held d).2)
 
@@ -171,21 +173,21 @@ module _ (s : Sheet) (h : T (reachable s)) where
   unfolding applied
   step_reachable x = go (first_of (order_of s x)) (filled_reachable x)
     where
-      go : (a : Answer) → (a ≡ Accepted → T (reachable (filled s x))) → T (reachable (replied a s (filled s x)).sheet)
-      go Accepted f = f refl
-      go (Refused r) f = h
+      go : (a : Answer) → (a ≡ Ok tt → T (reachable (filled s x))) → T (reachable (replied a s (filled s x)).sheet)
+      go (Ok u) f = f refl
+      go (Err r) f = h
 
 -- a step that is accepted
-pub applied_accepted : (s : Sheet) (x : Step) → (applied s x).answer ≡ Accepted → (first_of (order_of s x) ≡ Accepted) × ((applied s x).sheet ≡ filled s x)
+pub applied_accepted : (s : Sheet) (x : Step) → (applied s x).answer ≡ Ok tt → (first_of (order_of s x) ≡ Ok tt) × ((applied s x).sheet ≡ filled s x)
 unfolding applied
 applied_accepted s x e = go (first_of (order_of s x)) e
   where
-    go : (a : Answer) → (replied a s (filled s x)).answer ≡ Accepted → (a ≡ Accepted) × ((replied a s (filled s x)).sheet ≡ filled s x)
-    go Accepted e = (refl, refl)
-    go (Refused r) e = clash e
+    go : (a : Answer) → (replied a s (filled s x)).answer ≡ Ok tt → (a ≡ Ok tt) × ((replied a s (filled s x)).sheet ≡ filled s x)
+    go (Ok u) e = (refl, refl)
+    go (Err r) e = clash e
 
-pub held_next : (s : Sheet) (c : Course) → T (reachable s) → first_of (order_of s (add_course c)) ≡ Accepted
-    → held (filled s (add_course c)) ≡ held s ++ (c ∷ [])
+pub held_next : (s : Sheet) (c : Course) → T (reachable s) → first_of (order_of s (AddCourse c)) ≡ Ok tt
+    → held (filled s (AddCourse c)) ≡ held s ++ (c ∷ [])
 held_next s c h e =
     let high = too_high (height_of (held s)) c in
     let o = first_cons (NoTank when tank_blank s.tank) ((CoursesFull when leb 12 s.count) ∷ (course_flaws c ++ high ∷ [])) e in

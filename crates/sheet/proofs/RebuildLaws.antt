@@ -1,6 +1,9 @@
 -- A reachable sheet is rebuilt by stating what it holds (`rebuilt`); so the test passes exactly the sheets that some run of steps leaves
 -- (`left_exactly`).
 -- Assumes nothing.
+use Rattle.entries.specs.declared.sheet.Site.{Site}
+use Rattle.entries.specs.declared.sheet.Anchors.{Anchors}
+use Rattle.std.specs.Prelude.{Option, Some, None, Ok, Err}
 use mathlib.Core.Path.{◌≡◌, refl, sym, ap, ◌∙◌, subst}
 use mathlib.Core.Bool.{Bool, true}
 use mathlib.Core.List.{List, [], ◌∷◌, ◌++◌, map, append-nil}
@@ -13,30 +16,27 @@ use lib.Seq.{length-take-le, take-append_seam, append_snoc}
 use mir.Facts.{and_yes, eqb_yes}
 use borrow.Author.Tests.{le-ltb}
 use Rattle.fields.specs.declared.refusal.Refusal.{Refusal}
-use Rattle.fields.specs.Order.{clear}
-use Rattle.fields.specs.declared.answer.Answer.{Answer}
-use Rattle.fields.specs.declared.answer.Answer.TheVariants.{Accepted, Refused}
+use Rattle.fields.specs.Order.{Answer, clear}
 use Rattle.fields.proofs.OrderLaws.{first_then, clash, clear_accepted}
 use Rattle.entries.specs.Sheet.{course_figures, blank_course, empty_sheet, held, height_of, tank_flaws, site_flaws, anchor_flaws, course_flaws}
 use Rattle.parts.specs.Parts.{blank, site_blank, site_clear, anchors_blank, anchors_clear, courses_clear, courses_blank, parts_reachable}
-use Rattle.sheet.specs.Steps.{Step, state_tank, state_site, state_anchors, add_course, accepted, refused, applied, run, LeftByRun, reachable, unless, in_turn}
+use Rattle.sheet.specs.Steps.{accepted, refused, applied, run, LeftByRun, reachable, unless, in_turn}
+use Rattle.sheet.specs.declared.steps.Step.{Step}
+use Rattle.sheet.specs.declared.steps.Step.TheVariants.{StateTank, StateSite, StateAnchors, AddCourse}
 use Rattle.entries.specs.declared.sheet.Tank.{Tank}
 use Rattle.entries.specs.declared.sheet.Course.{Course}
-use Rattle.entries.specs.declared.sheet.TankEntry as TankEntry
-use Rattle.entries.specs.declared.sheet.SiteEntry as SiteEntry
-use Rattle.entries.specs.declared.sheet.AnchorsEntry as AnchorsEntry
 use Rattle.entries.specs.declared.sheet.Sheet.{Sheet}
 use Rattle.sheet.specs.declared.steps.Reply.{Reply}
 use Rattle.lists.specs.Pad.{padded}
 use Rattle.lists.proofs.BoolLaws.{three_yes}
 use Rattle.lists.proofs.PadLaws.{padded_next}
-use Rattle.entries.proofs.CourseLaws.{height_append}
+use Rattle.entries.proofs.CourseLaws.{height_append, height_cons}
 use Rattle.sheet.proofs.StepLaws.{tank_applied, site_applied, anchors_applied, course_applied, turn, turn_accepted}
 use Rattle.sheet.proofs.ReachLaws.{site_blank_lem, anchors_blank_lem, Slots, Held, reach_halves, reach_slots, parts_held, empty_reachable, run_reachable}
 
 -- ---- a reachable sheet is its parts, with blank slots behind its courses
 
-abbrev pub sheet_of : TankEntry.TankEntry → SiteEntry.SiteEntry → AnchorsEntry.AnchorsEntry → List Course → Sheet
+abbrev pub sheet_of : Option Tank → Option Site → Option Anchors → List Course → Sheet
 sheet_of e x a h = record { tank = e; site = x; anchors = a; courses = padded blank_course h; count = length h }
 
 blank_course_lem : (c : Course) → T (blank (course_figures c)) → c ≡ blank_course
@@ -84,79 +84,79 @@ module _ (s : Sheet) (h : T (reachable s)) where
 
 -- ---- it is rebuilt from the empty sheet
 
-module _ (t : Tank) (x : SiteEntry.SiteEntry) (a : AnchorsEntry.AnchorsEntry) where
+module _ (t : Tank) (x : Option Site) (a : Option Anchors) where
   abbrev with : List Course → Sheet
-  with h = sheet_of (TankEntry.TheVariants.Filled t) x a h
+  with h = sheet_of (Some t) x a h
 
   course_added : (h : List Course) (c : Course) → length h < 12 → T (clear (course_flaws c)) → height_of h + c.width ≤ 76800
-      → applied (with h) (add_course c) ≡ accepted (with (h ++ c ∷ []))
+      → applied (with h) (AddCourse c) ≡ accepted (with (h ++ c ∷ []))
   course_added h c l k m =
       let n : length h + 1 ≡ length (h ++ c ∷ []) = omega (arith, length-append h (c ∷ [])) in
       course_applied (with h) t refl c l
       ∙ rw (first_then (course_flaws c), clear_accepted (course_flaws c) k, take-append_seam h (replicate (12 - length h) blank_course), le-ltb _ _ m)
-      (ap (λ (l : List Course). accepted (record { tank = TankEntry.TheVariants.Filled t; site = x; anchors = a; courses = l; count = length h + 1 })) (padded_next blank_course h c (length h) refl l)
-      ∙ ap (λ (n : ℕ). accepted (record { tank = TankEntry.TheVariants.Filled t; site = x; anchors = a; courses = padded blank_course (h ++ c ∷ []); count = n })) n)
+      (ap (λ (l : List Course). accepted (record { tank = Some t; site = x; anchors = a; courses = l; count = length h + 1 })) (padded_next blank_course h c (length h) refl l)
+      ∙ ap (λ (n : ℕ). accepted (record { tank = Some t; site = x; anchors = a; courses = padded blank_course (h ++ c ∷ []); count = n })) n)
 
   courses_added : (rest h : List Course) → length h + length rest ≤ 12 → T (courses_clear rest) → height_of h + height_of rest ≤ 76800
-      → in_turn (with h) (map add_course rest) ≡ accepted (with (h ++ rest))
+      → in_turn (with h) (map AddCourse rest) ≡ accepted (with (h ++ rest))
   unfolding courses_clear
   courses_added [] h l k m = ap (λ (r : List Course). accepted (with r)) (sym (append-nil h))
   courses_added (c ∷ rest) h l k m =
       let d = and_yes (clear (course_flaws c)) (courses_clear rest) k in
-      turn (with h) (add_course c) (map add_course rest) (course_added h c (omega arith) d.0 (omega arith))
-      ∙ (courses_added rest (h ++ c ∷ []) (omega (arith, length-append h (c ∷ []))) d.1 (omega (arith, height_append h (c ∷ [])))
+      turn (with h) (AddCourse c) (map AddCourse rest) (course_added h c (omega arith) d.0 (omega (arith, height_cons c rest)))
+      ∙ (courses_added rest (h ++ c ∷ []) (omega (arith, length-append h (c ∷ []))) d.1 (omega (arith, height_append h (c ∷ []), height_cons c rest))
       ∙ ap (λ (r : List Course). accepted (with r)) (append_snoc h c rest))
 
 -- what a sheet holds, stated in document 01's order; a site or anchors that are blank are not stated
-abbrev pub site_steps : SiteEntry.SiteEntry → List Step
-site_steps SiteEntry.TheVariants.Blank = []
-site_steps (SiteEntry.TheVariants.Filled x) = state_site x ∷ []
+abbrev pub site_steps : Option Site → List Step
+site_steps None = []
+site_steps (Some x) = StateSite x ∷ []
 
-abbrev pub anchors_steps : AnchorsEntry.AnchorsEntry → List Step
-anchors_steps AnchorsEntry.TheVariants.Blank = []
-anchors_steps (AnchorsEntry.TheVariants.Filled a) = state_anchors a ∷ []
+abbrev pub anchors_steps : Option Anchors → List Step
+anchors_steps None = []
+anchors_steps (Some a) = StateAnchors a ∷ []
 
-abbrev pub steps_of : Tank → SiteEntry.SiteEntry → AnchorsEntry.AnchorsEntry → List Course → List Step
-steps_of t x a cs = state_tank t ∷ (site_steps x ++ (anchors_steps a ++ map add_course cs))
+abbrev pub steps_of : Tank → Option Site → Option Anchors → List Course → List Step
+steps_of t x a cs = StateTank t ∷ (site_steps x ++ (anchors_steps a ++ map AddCourse cs))
 
 module _ (t : Tank) where
-  abbrev bare : SiteEntry.SiteEntry → AnchorsEntry.AnchorsEntry → Sheet
-  bare x a = sheet_of (TankEntry.TheVariants.Filled t) x a []
+  abbrev bare : Option Site → Option Anchors → Sheet
+  bare x a = sheet_of (Some t) x a []
 
   tank_first : T (clear (tank_flaws t))
-      → applied empty_sheet (state_tank t) ≡ accepted (bare SiteEntry.TheVariants.Blank AnchorsEntry.TheVariants.Blank)
+      → applied empty_sheet (StateTank t) ≡ accepted (bare None None)
   tank_first k = tank_applied empty_sheet refl t ∙ rw (clear_accepted (tank_flaws t) k)
 
-  site_next : (x : SiteEntry.SiteEntry) (a : AnchorsEntry.AnchorsEntry) (xs : List Step) → T (site_clear x)
-      → in_turn (bare SiteEntry.TheVariants.Blank a) (site_steps x ++ xs) ≡ in_turn (bare x a) xs
-  site_next SiteEntry.TheVariants.Blank a xs k = refl
-  site_next (SiteEntry.TheVariants.Filled x) a xs k =
-      turn_accepted (bare SiteEntry.TheVariants.Blank a) (state_site x) xs (site_applied (bare SiteEntry.TheVariants.Blank a) t refl x) (clear_accepted (site_flaws x) k)
+  site_next : (x : Option Site) (a : Option Anchors) (xs : List Step) → T (site_clear x)
+      → in_turn (bare None a) (site_steps x ++ xs) ≡ in_turn (bare x a) xs
+  site_next None a xs k = refl
+  site_next (Some x) a xs k =
+      turn_accepted (bare None a) (StateSite x) xs (site_applied (bare None a) t refl x) (clear_accepted (site_flaws x) k)
 
-  anchors_next : (x : SiteEntry.SiteEntry) (a : AnchorsEntry.AnchorsEntry) (xs : List Step) → T (anchors_clear t.diameter a)
-      → in_turn (bare x AnchorsEntry.TheVariants.Blank) (anchors_steps a ++ xs) ≡ in_turn (bare x a) xs
-  anchors_next x AnchorsEntry.TheVariants.Blank xs k = refl
-  anchors_next x (AnchorsEntry.TheVariants.Filled a) xs k =
-      turn_accepted (bare x AnchorsEntry.TheVariants.Blank) (state_anchors a) xs (anchors_applied (bare x AnchorsEntry.TheVariants.Blank) t refl a) (clear_accepted (anchor_flaws t.diameter a) k)
+  anchors_next : (x : Option Site) (a : Option Anchors) (xs : List Step) → T (anchors_clear t.diameter a)
+      → in_turn (bare x None) (anchors_steps a ++ xs) ≡ in_turn (bare x a) xs
+  anchors_next x None xs k = refl
+  anchors_next x (Some a) xs k =
+      turn_accepted (bare x None) (StateAnchors a) xs (anchors_applied (bare x None) t refl a) (clear_accepted (anchor_flaws t.diameter a) k)
 
-  all_stated : (x : SiteEntry.SiteEntry) (a : AnchorsEntry.AnchorsEntry) (cs : List Course)
+  all_stated : (x : Option Site) (a : Option Anchors) (cs : List Course)
       → T (clear (tank_flaws t)) → T (site_clear x) → T (anchors_clear t.diameter a)
       → length cs ≤ 12 → T (courses_clear cs) → height_of cs ≤ 76800
-      → in_turn empty_sheet (steps_of t x a cs) ≡ accepted (sheet_of (TankEntry.TheVariants.Filled t) x a cs)
+      → in_turn empty_sheet (steps_of t x a cs) ≡ accepted (sheet_of (Some t) x a cs)
   all_stated x a cs kt kx ka l kc m =
-      turn empty_sheet (state_tank t) (site_steps x ++ (anchors_steps a ++ map add_course cs)) (tank_first kt)
-      ∙ site_next x AnchorsEntry.TheVariants.Blank (anchors_steps a ++ map add_course cs) kx
-      ∙ anchors_next x a (map add_course cs) ka
+      turn empty_sheet (StateTank t) (site_steps x ++ (anchors_steps a ++ map AddCourse cs)) (tank_first kt)
+      ∙ site_next x None (anchors_steps a ++ map AddCourse cs) kx
+      ∙ anchors_next x a (map AddCourse cs) ka
       ∙ courses_added t x a cs [] (omega arith) kc (omega arith)
 
 -- A SHEET THAT PASSES THE TEST IS WHAT ITS OWN STEPS LEAVE
-pub rebuilt : (s : Sheet) → T (reachable s) → (d : Held TankEntry.TheVariants.Filled s.tank)
+pub rebuilt : (s : Sheet) → T (reachable s) → (d : Held Some s.tank)
     → in_turn empty_sheet (steps_of d.entry s.site s.anchors (held s)) ≡ accepted s
 rebuilt s h d =
     let p = parts_held s h d in
     let l = reach_slots s h in
     all_stated d.entry s.site s.anchors (held s) p.0 p.1 p.2 (omega (arith, held_length s h, l.few)) l.clear l.low
-    ∙ ap (λ (e : TankEntry.TankEntry). accepted (sheet_of e s.site s.anchors (held s))) (sym d.is)
+    ∙ ap (λ (e : Option Tank). accepted (sheet_of e s.site s.anchors (held s))) (sym d.is)
     ∙ ap accepted (sym (as_parts s h))
 
 -- ---- and so by a run
@@ -170,26 +170,26 @@ in_turn_run (x ∷ xs) s t e = go (applied s x).answer (in_turn_run xs (applied 
   where
     go : (a : Answer) → (in_turn (applied s x).sheet xs ≡ accepted t → run (applied s x).sheet xs ≡ t)
         → unless a (in_turn (applied s x).sheet xs) ≡ accepted t → run (applied s x).sheet xs ≡ t
-    go Accepted f e = f e
-    go (Refused r) f e = absurd (refused_accepted r empty_sheet t e)
+    go (Ok u) f e = f e
+    go (Err r) f e = absurd (refused_accepted r empty_sheet t e)
 
-no_tank_empty : (s : Sheet) → T (reachable s) → s.tank ≡ TankEntry.TheVariants.Blank → s ≡ empty_sheet
+no_tank_empty : (s : Sheet) → T (reachable s) → s.tank ≡ None → s ≡ empty_sheet
 no_tank_empty s h e =
     let b = three_yes (site_blank s.site) (anchors_blank s.anchors) (eqb s.count 0)
-    (subst (λ (e : TankEntry.TankEntry). T (parts_reachable e s.site s.anchors s.count)) e (reach_halves s h).1) in
+    (subst (λ (e : Option Tank). T (parts_reachable e s.site s.anchors s.count)) e (reach_halves s h).1) in
     let n : s.count ≡ 0 = eqb_yes b.2 in
-    let x : s.site ≡ SiteEntry.TheVariants.Blank = site_blank_lem s.site b.0 in
-    let a : s.anchors ≡ AnchorsEntry.TheVariants.Blank = anchors_blank_lem s.anchors b.1 in
+    let x : s.site ≡ None = site_blank_lem s.site b.0 in
+    let a : s.anchors ≡ None = anchors_blank_lem s.anchors b.1 in
     let c : held s ≡ [] = ap (λ (k : ℕ). take k s.courses) n in
     as_parts s h
-    ∙ ap (λ (e : TankEntry.TankEntry). sheet_of e s.site s.anchors (held s)) e
-    ∙ ap (λ (x : SiteEntry.SiteEntry). sheet_of TankEntry.TheVariants.Blank x s.anchors (held s)) x
-    ∙ ap (λ (a : AnchorsEntry.AnchorsEntry). sheet_of TankEntry.TheVariants.Blank SiteEntry.TheVariants.Blank a (held s)) a
-    ∙ ap (λ (l : List Course). sheet_of TankEntry.TheVariants.Blank SiteEntry.TheVariants.Blank AnchorsEntry.TheVariants.Blank l) c
+    ∙ ap (λ (e : Option Tank). sheet_of e s.site s.anchors (held s)) e
+    ∙ ap (λ (x : Option Site). sheet_of None x s.anchors (held s)) x
+    ∙ ap (λ (a : Option Anchors). sheet_of None None a (held s)) a
+    ∙ ap (λ (l : List Course). sheet_of None None None l) c
 
-reachable_left : (s : Sheet) (e : TankEntry.TankEntry) → s.tank ≡ e → T (reachable s) → LeftByRun s
-reachable_left s TankEntry.TheVariants.Blank e h = record { steps = []; leaves = sym (no_tank_empty s h e) }
-reachable_left s (TankEntry.TheVariants.Filled t) e h =
+reachable_left : (s : Sheet) (e : Option Tank) → s.tank ≡ e → T (reachable s) → LeftByRun s
+reachable_left s None e h = record { steps = []; leaves = sym (no_tank_empty s h e) }
+reachable_left s (Some t) e h =
     let xs = steps_of t s.site s.anchors (held s) in
     record { steps = xs; leaves = in_turn_run xs empty_sheet s (rebuilt s h (record { entry = t; is = e })) }
 

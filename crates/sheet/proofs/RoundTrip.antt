@@ -1,6 +1,8 @@
 -- The round trips: bytes that are read and written again are the same bytes (`writes_back`); a complete sheet that is written and read again
 -- is the same sheet (`reads_back`).
 -- Assumes nothing.
+use Rattle.sheet.specs.declared.complete.Entries.{Entries}
+use Rattle.std.specs.Prelude.{Option, Some, Result, Ok, Err}
 use mathlib.Core.Path.{◌≡◌, refl, sym, ap, ◌∙◌, subst}
 use mathlib.Core.List.{List, [], ◌∷◌, ◌++◌, map, append-nil}
 use Prim.Native.Nat.{ℕ, ◌≤◌}
@@ -12,12 +14,10 @@ use lib.ListN.{length, take, drop}
 use lib.Seq.{take_at, append_snoc}
 use mir.Facts.{and_yes}
 use Rattle.fields.specs.declared.refusal.Refusal.{Refusal}
-use Rattle.fields.specs.declared.refusal.Refusal.TheVariants.{BadAnchors, BufferTooShort, Unreachable}
+use Rattle.fields.specs.declared.refusal.Refusal.TheVariants.{BadAnchors, BufferTooShort}
 use Rattle.fields.proofs.RefusalLaws.{never_zero}
 use Rattle.lists.proofs.BoolLaws.{T_true}
-use Rattle.fields.specs.Order.{Condition, ◌when◌, Figure, values, first_of, outside, clear, answer_code, first_code}
-use Rattle.fields.specs.declared.answer.Answer.{Answer}
-use Rattle.fields.specs.declared.answer.Answer.TheVariants.{Accepted, Refused}
+use Rattle.fields.specs.Order.{Answer, Condition, ◌when◌, Figure, values, first_of, reply_unless, outside, clear, answer_code, first_code}
 use Rattle.fields.proofs.OrderLaws.{clash, accepted_code, clear_accepted}
 use Rattle.entries.specs.Sheet.{tank_fields, site_fields, anchor_fields, course_fields, empty_sheet, held, height_of, allowance_too_large, bad_anchors, tank_flaws, site_flaws, anchor_flaws, course_flaws}
 use Rattle.entries.specs.declared.sheet.Tank.{Tank}
@@ -25,9 +25,6 @@ use Rattle.entries.specs.declared.sheet.Site.{Site}
 use Rattle.entries.specs.declared.sheet.Anchors.{Anchors}
 use Rattle.entries.specs.declared.sheet.Course.{Course}
 use Rattle.entries.specs.declared.sheet.Sheet.{Sheet}
-use Rattle.entries.specs.declared.sheet.TankEntry as TankEntry
-use Rattle.entries.specs.declared.sheet.SiteEntry as SiteEntry
-use Rattle.entries.specs.declared.sheet.AnchorsEntry as AnchorsEntry
 use Rattle.entries.proofs.FieldLaws.{all_pass, both_pass}
 use Rattle.layout.specs.Numbers.{AllBytes, two_in}
 use Rattle.layout.specs.Layout.{version1, whole_length, layout}
@@ -36,40 +33,39 @@ use Rattle.layout.proofs.LayoutLaws.{layout_length}
 use Rattle.layout.proofs.HeaderLaws.{header, headed, count_of_length}
 use Rattle.layout.proofs.BackLaws.{same_bytes, courses_in_length, Small, small_of, SmallCourses, none, one, tank_back, tail_back, site_back, anchors_back, courses_back_again, laid, laid_length, laid_header}
 use Rattle.parts.specs.Parts.{courses_clear}
-use Rattle.sheet.specs.Steps.{Step, state_tank, state_site, state_anchors, add_course, order_of, filled, accepted, applied, reachable, unless, in_turn}
-use Rattle.sheet.specs.Complete.{complete_order, entries_of, courses_of, no_entries, status_of, completed_of, completed_code, code_with}
+use Rattle.sheet.specs.Steps.{order_of, filled, accepted, applied, reachable, unless, in_turn, refused}
+use Rattle.sheet.specs.declared.steps.Step.{Step}
+use Rattle.sheet.specs.declared.steps.Step.TheVariants.{StateTank, StateSite, StateAnchors, AddCourse}
+use Rattle.sheet.specs.Complete.{complete_order, entries_of, courses_of, completed_of, completed_code, code_with}
 use Rattle.sheet.specs.Writing.{bytes_of, size_of, WriteReply, written, write_code, written_code}
-use Rattle.sheet.specs.Reading.{from_courses, from_anchors, from_site, steps_in, read_in, with_height, unless_code, read_code, completed_from, read_completed, bytes_code, WritesBack, ReadsBack}
-use Rattle.sheet.specs.declared.complete.Completeness as Status
-use Rattle.sheet.specs.declared.complete.Completed.{Completed}
+use Rattle.sheet.specs.Reading.{from_courses, from_anchors, from_site, steps_in, read_in, reading, with_height, unless_code, read_code, completed_from, read_completed, bytes_code, WritesBack, ReadsBack}
 use Rattle.sheet.specs.declared.reading.Reading.{Reading}
 use Rattle.sheet.specs.declared.steps.Reply.{Reply}
-use Rattle.sheet.specs.declared.writing.Written as Written
 use Rattle.sheet.proofs.AnswerLaws.{read_sheet_reachable, read_code_lem, write_code_lem}
-use Rattle.sheet.proofs.CompleteLaws.{complete_status, complete_sheet, valid, courses_length, complete_code, sheet_code_lem}
+use Rattle.sheet.proofs.CompleteLaws.{IsComplete, complete_is, complete_held, complete_sheet, valid, courses_length, complete_code, sheet_code_lem}
 use Rattle.sheet.proofs.ReachLaws.{applied_accepted, filled_reachable, held_next, empty_reachable}
 use Rattle.sheet.proofs.RebuildLaws.{refused_accepted, held_length, steps_of, rebuilt}
-use Rattle.sheet.proofs.WriteLaws.{write_unreachable, write_refused, write_complete, no_room_lem, done}
+use Rattle.sheet.proofs.WriteLaws.{write_refused, write_complete, no_room_lem, done}
 
 -- ---- what steps that were all accepted leave
 
 in_turn_split : (s t : Sheet) (x : Step) (xs : List Step) → in_turn s (x ∷ xs) ≡ accepted t
-    → (first_of (order_of s x) ≡ Accepted) × (in_turn (filled s x) xs ≡ accepted t)
+    → (first_of (order_of s x) ≡ Ok tt) × (in_turn (filled s x) xs ≡ accepted t)
 in_turn_split s t x xs e = go (applied s x).answer refl e
   where
     go : (a : Answer) → (applied s x).answer ≡ a → unless a (in_turn (applied s x).sheet xs) ≡ accepted t
-        → (first_of (order_of s x) ≡ Accepted) × (in_turn (filled s x) xs ≡ accepted t)
-    go Accepted f e = let o = applied_accepted s x f in (o.0, subst (λ (z : Sheet). in_turn z xs ≡ accepted t) o.1 e)
-    go (Refused r) f e = absurd (refused_accepted r empty_sheet t e)
+        → (first_of (order_of s x) ≡ Ok tt) × (in_turn (filled s x) xs ≡ accepted t)
+    go (Ok u) f e = let o = applied_accepted s x f in (o.0, subst (λ (z : Sheet). in_turn z xs ≡ accepted t) o.1 e)
+    go (Err r) f e = absurd (refused_accepted r empty_sheet t e)
 
 -- the tank, the site, the anchors and the courses that a sheet holds
-pub record Holds (s : Sheet) (t : TankEntry.TankEntry) (x : SiteEntry.SiteEntry) (a : AnchorsEntry.AnchorsEntry) (cs : List Course) : Type 0 where
+pub record Holds (s : Sheet) (t : Option Tank) (x : Option Site) (a : Option Anchors) (cs : List Course) : Type 0 where
   pub tank : s.tank ≡ t
   pub site : s.site ≡ x
   pub anchors : s.anchors ≡ a
   pub courses : held s ≡ cs
 
-courses_left : (cs : List Course) (s t : Sheet) → T (reachable s) → in_turn s (map add_course cs) ≡ accepted t
+courses_left : (cs : List Course) (s t : Sheet) → T (reachable s) → in_turn s (map AddCourse cs) ≡ accepted t
     → Holds t s.tank s.site s.anchors (held s ++ cs)
 courses_left [] s t r e =
     let f : s ≡ t = ap (λ (y : Reply). y.sheet) e in
@@ -80,8 +76,8 @@ courses_left [] s t r e =
       courses = ap held (sym f) ∙ sym (append-nil (held s));
     }
 courses_left (c ∷ cs) s t r e =
-    let o = in_turn_split s t (add_course c) (map add_course cs) e in
-    let h = courses_left cs (filled s (add_course c)) t (filled_reachable s r (add_course c) o.0) o.1 in
+    let o = in_turn_split s t (AddCourse c) (map AddCourse cs) e in
+    let h = courses_left cs (filled s (AddCourse c)) t (filled_reachable s r (AddCourse c) o.0) o.1 in
     record {
       tank = h.tank;
       site = h.site;
@@ -91,16 +87,16 @@ courses_left (c ∷ cs) s t r e =
 
 -- READING LEAVES WHAT THE BYTES HOLD
 read_holds : (b : List ℕ) (s : Sheet) (h : Header b) → in_turn empty_sheet (steps_in version1 b) ≡ accepted s
-    → Holds s (TankEntry.TheVariants.Filled (tank_in (drop 3 b))) (SiteEntry.TheVariants.Filled (site_in (tail_in version1 b)))
-    (AnchorsEntry.TheVariants.Filled (anchors_in (drop 20 (tail_in version1 b))))
+    → Holds s (Some (tank_in (drop 3 b))) (Some (site_in (tail_in version1 b)))
+    (Some (anchors_in (drop 20 (tail_in version1 b))))
     (courses_in h.n (drop 33 (tail_in version1 b)))
 unfolding steps_in
 read_holds b s h e =
     let n = count_of version1 (two_in b) in
     let tail = tail_in version1 b in
-    let x1 = state_tank (tank_in (drop 3 b)) in
-    let x2 = state_site (site_in tail) in
-    let x3 = state_anchors (anchors_in (drop 20 tail)) in
+    let x1 = StateTank (tank_in (drop 3 b)) in
+    let x2 = StateSite (site_in tail) in
+    let x3 = StateAnchors (anchors_in (drop 20 tail)) in
     let o1 = in_turn_split empty_sheet s x1 (from_site n tail) e in
     let s1 = filled empty_sheet x1 in
     let r1 = filled_reachable empty_sheet empty_reachable x1 o1.0 in
@@ -124,12 +120,12 @@ unfolding read_in
 read_split b s e = go (first_of (read_order version1 b)) refl e
   where
     go : (a : Answer) → first_of (read_order version1 b) ≡ a → unless a (in_turn empty_sheet (steps_in version1 b)) ≡ accepted s → Read b s
-    go Accepted f e = record { head = header b f; steps = e }
-    go (Refused r) f e = absurd (refused_accepted r empty_sheet s e)
+    go (Ok u) f e = record { head = header b f; steps = e }
+    go (Err r) f e = absurd (refused_accepted r empty_sheet s e)
 
 -- BYTES THAT ARE READ AND WRITTEN AGAIN ARE THE SAME BYTES
 read_write : (b : List ℕ) (s : Sheet) → AllBytes b → read_in b ≡ accepted s → (buf : List ℕ) → length b ≤ length buf
-    → written s buf ≡ record { answer = Written.TheVariants.Bytes (length b); buffer = b ++ drop (length b) buf }
+    → written s buf ≡ record { answer = Ok (length b); buffer = b ++ drop (length b) buf }
 unfolding bytes_of
 read_write b s k e buf l =
     let r = read_split b s e in
@@ -138,14 +134,14 @@ read_write b s k e buf l =
     let p = read_holds b s h r.steps in
     let ok = subst (λ (y : Reply). T (reachable y.sheet)) e (read_sheet_reachable b) in
     let n : s.count ≡ h.n = sym (held_length s ok) ∙ ap length p.courses ∙ courses_in_length h.n (drop 33 tail) in
-    let o = complete_status s (T_true (reachable s) ok) (tank_in (drop 3 b)) p.tank (λ z. omega (arith, z, n, h.some)) (site_in tail) p.site (anchors_in (drop 20 tail)) p.anchors in
+    let o = complete_held s (T_true (reachable s) ok) (tank_in (drop 3 b)) p.tank (λ z. omega (arith, z, n, h.some)) (site_in tail) p.site (anchors_in (drop 20 tail)) p.anchors in
     let m : size_of (entries_of s) ≡ length b = omega (arith, n, h.whole) in
     let same : bytes_of (entries_of s) ≡ b
     = rw (p.tank, p.site, p.anchors, p.courses) (same_bytes b h k) in
-    write_complete s buf o
+    write_complete s buf refl o
     ∙ done (entries_of s) buf (omega (arith, m))
-    ∙ ap (λ (z : List ℕ). record { answer = Written.TheVariants.Bytes (size_of (entries_of s)); buffer = z ++ drop (size_of (entries_of s)) buf }) same
-    ∙ ap (λ (i : ℕ). record { answer = Written.TheVariants.Bytes i; buffer = b ++ drop i buf }) m
+    ∙ ap (λ (z : List ℕ). record { answer = Ok (size_of (entries_of s)); buffer = z ++ drop (size_of (entries_of s)) buf }) same
+    ∙ ap (λ (i : ℕ). record { answer = Ok i; buffer = b ++ drop i buf }) m
 
 pub writes_back : (b : List ℕ) → AllBytes b → WritesBack b (read_in b)
 writes_back b k = record { same = λ c. read_write b (read_in b).sheet k (ap (λ (a : Answer). record { answer = a; sheet = (read_in b).sheet }) (accepted_code (read_in b).answer c)) }
@@ -164,7 +160,7 @@ small_courses (c ∷ cs) h =
 
 laid_steps : (t : Tank) (x : Site) (a : Anchors) (cs : List Course)
     → T (clear (tank_flaws t)) → T (clear (site_flaws x)) → T (clear (anchor_flaws t.diameter a)) → T (courses_clear cs) → length cs ≤ 12
-    → steps_in version1 (laid t x a cs) ≡ steps_of t (SiteEntry.TheVariants.Filled x) (AnchorsEntry.TheVariants.Filled a) cs
+    → steps_in version1 (laid t x a cs) ≡ steps_of t (Some x) (Some a) cs
 unfolding steps_in tank_flaws site_flaws anchor_flaws
 laid_steps t x a cs kt kx ka kc m =
     let n : count_of version1 (two_in (laid t x a cs)) ≡ length cs = ap (count_of version1) (laid_length t x a cs m) ∙ count_of_length (length cs) in
@@ -173,7 +169,7 @@ laid_steps t x a cs kt kx ka kc m =
     let w = anchors_back x a cs (clear_small (anchor_fields a) (BadAnchors when bad_anchors t.diameter a) ka) in
     rw (n, y, tail_back t x a cs, z, w, courses_back_again x a cs (small_courses cs kc))
 
-bytes_read : (s : Sheet) → status_of s ≡ Status.TheVariants.Complete → read_in (bytes_of (entries_of s)) ≡ accepted s
+bytes_read : (s : Sheet) → IsComplete s → read_in (bytes_of (entries_of s)) ≡ accepted s
 unfolding read_in bytes_of
 bytes_read s o =
     let w = complete_sheet s o in
@@ -184,12 +180,12 @@ bytes_read s o =
     let h = laid_header e.tank e.site e.anchors (held s) (omega (arith, n, v.some)) few in
     ap (λ (y : Answer). unless y (in_turn empty_sheet (steps_in version1 (layout version1 e.tank e.site e.anchors (held s))))) (headed (layout version1 e.tank e.site e.anchors (held s)) h)
     ∙ ap (λ (xs : List Step). in_turn empty_sheet xs) (laid_steps e.tank e.site e.anchors (held s) v.tank v.site v.anchors v.courses few)
-    ∙ ap (λ (y : SiteEntry.SiteEntry). in_turn empty_sheet (steps_of e.tank y (AnchorsEntry.TheVariants.Filled e.anchors) (held s))) (sym w.site)
-    ∙ ap (λ (y : AnchorsEntry.AnchorsEntry). in_turn empty_sheet (steps_of e.tank s.site y (held s))) (sym w.anchors)
+    ∙ ap (λ (y : Option Site). in_turn empty_sheet (steps_of e.tank y (Some e.anchors) (held s))) (sym w.site)
+    ∙ ap (λ (y : Option Anchors). in_turn empty_sheet (steps_of e.tank s.site y (held s))) (sym w.anchors)
     ∙ rebuilt s w.reach (record { entry = e.tank; is = w.tank })
 
 -- A COMPLETE SHEET THAT IS WRITTEN AND READ AGAIN IS THE SAME SHEET, whatever the rest of the buffer held
-write_read : (s : Sheet) → status_of s ≡ Status.TheVariants.Complete → (buf : List ℕ)
+write_read : (s : Sheet) → IsComplete s → (buf : List ℕ)
     → read_in (take (size_of (entries_of s)) (bytes_of (entries_of s) ++ drop (size_of (entries_of s)) buf)) ≡ accepted s
 unfolding bytes_of
 write_read s o buf =
@@ -204,23 +200,22 @@ pub read_clauses : (b : List ℕ) → AllBytes b → {y : Reply} → y ≡ read_
 read_clauses b k e = (e, (ap (λ (z : Reply). answer_code z.answer) e ∙ read_code_lem b, subst (WritesBack b) (sym e) (writes_back b k)))
 
 -- a refusal has no code 0, and after it there is nothing to read
-refused_back : (s : Sheet) (r : Refusal) (buf : List ℕ) → ReadsBack s (Written.TheVariants.Refused r) buf
-refused_back s r buf = record { same = λ c. clash (accepted_code (Refused r) c) }
+refused_back : (s : Sheet) (r : Refusal) (buf : List ℕ) → ReadsBack s (Err r) buf
+refused_back s r buf = record { same = λ c. clash (accepted_code (Err r) c) }
 
 reads_back : (s : Sheet) (buf : List ℕ) → ReadsBack s (written s buf).answer (written s buf).buffer
-reads_back s buf = go (status_of s) refl
+reads_back s buf = go (completed_of s) refl
   where
     by : {w : WriteReply} → written s buf ≡ w → ReadsBack s w.answer w.buffer → ReadsBack s (written s buf).answer (written s buf).buffer
     by e r = subst (λ (w : WriteReply). ReadsBack s w.answer w.buffer) (sym e) r
 
-    room : status_of s ≡ Status.TheVariants.Complete → Dec (size_of (entries_of s) ≤ length buf) → ReadsBack s (written s buf).answer (written s buf).buffer
-    room o (yes l) = by (write_complete s buf o ∙ done (entries_of s) buf l) (record { same = λ c. write_read s o buf })
-    room o (no l) = by (write_complete s buf o ∙ no_room_lem (entries_of s) buf (lt_of_not-le l)) (refused_back s BufferTooShort buf)
+    room : IsComplete s → Dec (size_of (entries_of s) ≤ length buf) → ReadsBack s (written s buf).answer (written s buf).buffer
+    room o (yes l) = by (write_complete s buf refl o ∙ done (entries_of s) buf l) (record { same = λ c. write_read s o buf })
+    room o (no l) = by (write_complete s buf refl o ∙ no_room_lem (entries_of s) buf (lt_of_not-le l)) (refused_back s BufferTooShort buf)
 
-    go : (t : Status.Completeness) → status_of s ≡ t → ReadsBack s (written s buf).answer (written s buf).buffer
-    go Status.TheVariants.Unreachable o = by (write_unreachable s buf o) (refused_back s Unreachable buf)
-    go (Status.TheVariants.Refused r) o = by (write_refused s buf o) (refused_back s r buf)
-    go Status.TheVariants.Complete o = room o (dec_le (size_of (entries_of s)) (length buf))
+    go : (y : Result Entries Refusal) → completed_of s ≡ y → ReadsBack s (written s buf).answer (written s buf).buffer
+    go (Err r) o = by (write_refused s buf refl o) (refused_back s r buf)
+    go (Ok e) o = room (complete_is s refl o) (dec_le (size_of (entries_of s)) (length buf))
 
 pub written_clauses : (s : Sheet) (buf : List ℕ) {v : WriteReply} → written s buf ≡ v
     → (v.answer ≡ (written s buf).answer)
@@ -236,25 +231,64 @@ written_clauses s buf e = (
   ),
 )
 
--- ---- the entries of the sheet that bytes are
+-- ---- the sheet that bytes are, and its entries
 
-module _ (b : List ℕ) {y : Reading} (e : y ≡ with_height (read_in b)) where
-  pub read_refused : {r : Refusal} → y.answer ≡ Refused r
-      → read_completed b ≡ record { status = Status.TheVariants.Refused r; entries = no_entries }
+-- beside a refusal it is empty
+unless_empty : (a : Answer) (y : Reply) {r : Refusal} → (y.answer ≡ Err r → y ≡ refused r empty_sheet)
+    → (unless a y).answer ≡ Err r → unless a y ≡ refused r empty_sheet
+unless_empty (Ok u) y f e = f e
+unless_empty (Err q) y {r} f e = let k : q ≡ r = cc in ap (λ (r : Refusal). refused r empty_sheet) k
+
+turn_empty : (xs : List Step) (s : Sheet) {r : Refusal} → (in_turn s xs).answer ≡ Err r → in_turn s xs ≡ refused r empty_sheet
+turn_empty [] s e = clash (sym e)
+turn_empty (x ∷ xs) s e = unless_empty (applied s x).answer (in_turn (applied s x).sheet xs) (turn_empty xs (applied s x).sheet) e
+
+read_empty : (b : List ℕ) {r : Refusal} → (read_in b).answer ≡ Err r → read_in b ≡ refused r empty_sheet
+unfolding read_in
+read_empty b e =
+    unless_empty (first_of (read_order version1 b)) (in_turn empty_sheet (steps_in version1 b)) (turn_empty (steps_in version1 b) empty_sheet) e
+
+module _ (b : List ℕ) {y : Result Reading Refusal} (q : y ≡ with_height (read_in b)) where
+  pub refusal_is : {r : Refusal} → y ≡ Err r → refused r empty_sheet ≡ read_in b
+  refusal_is {r} k = sym (read_empty b (go (read_in b).answer (sym q ∙ k)))
+    where
+      go : (a : Answer) → reply_unless a (reading (read_in b).sheet) ≡ Err r → a ≡ Err r
+      go (Ok u) e = clash (sym e)
+      go (Err q) e = let k : q ≡ r = cc in ap Err k
+
+  pub read_refused : {r : Refusal} → y ≡ Err r → read_completed b ≡ Err r
   unfolding read_completed
-  read_refused f = ap (λ (a : Answer). completed_from a (read_in b).sheet) (ap (λ (z : Reading). z.answer) (sym e) ∙ f)
+  read_refused {r} k = go (read_in b).answer (sym q ∙ k)
+    where
+      go : (a : Answer) → reply_unless a (reading (read_in b).sheet) ≡ Err r → completed_from a (read_in b).sheet ≡ Err r
+      go (Ok u) e = clash (sym e)
+      go (Err q) e = let k : q ≡ r = cc in ap Err k
 
-  pub read_accepted : y.answer ≡ Accepted → read_completed b ≡ completed_of y.sheet
-  unfolding read_completed
-  read_accepted f =
-      ap (λ (a : Answer). completed_from a (read_in b).sheet) (ap (λ (z : Reading). z.answer) (sym e) ∙ f)
-      ∙ ap (λ (z : Reading). completed_of z.sheet) (sym e)
+  module _ {v : Reading} (k : y ≡ Ok v) where
+    -- the answer, and what was read
+    was_read : ((read_in b).answer ≡ Ok tt) × (v ≡ reading (read_in b).sheet)
+    was_read = go (read_in b).answer (sym q ∙ k)
+      where
+        go : (a : Answer) → reply_unless a (reading (read_in b).sheet) ≡ Ok v → (a ≡ Ok tt) × (v ≡ reading (read_in b).sheet)
+        go (Ok u) e = (refl, let k : reading (read_in b).sheet ≡ v = cc in sym k)
+        go (Err r) e = clash e
 
-  pub read_left : T (reachable y.sheet) × (y.height ≡ height_of (held y.sheet))
-  read_left = (
-    subst (λ (z : Reading). T (reachable z.sheet)) (sym e) (read_sheet_reachable b),
-    subst (λ (z : Reading). z.height ≡ height_of (held z.sheet)) (sym e) refl,
-  )
+    pub reading_is : accepted v.sheet ≡ read_in b
+    reading_is =
+        ap (λ (z : Reading). accepted z.sheet) was_read.1
+        ∙ ap (λ (a : Answer). record { answer = a; sheet = (read_in b).sheet }) (sym was_read.0)
+
+    pub read_accepted : read_completed b ≡ completed_of v.sheet
+    unfolding read_completed
+    read_accepted =
+        ap (λ (a : Answer). completed_from a (read_in b).sheet) was_read.0
+        ∙ ap (λ (z : Reading). completed_of z.sheet) (sym was_read.1)
+
+    pub read_left : T (reachable v.sheet) × (v.height ≡ height_of (held v.sheet))
+    read_left = (
+      subst (λ (z : Reading). T (reachable z.sheet)) (sym was_read.1) (read_sheet_reachable b),
+      subst (λ (z : Reading). z.height ≡ height_of (held z.sheet)) (sym was_read.1) refl,
+    )
 
 pub read_completed_code : (b : List ℕ) → completed_code (read_completed b) ≡ bytes_code b
 unfolding read_completed bytes_code
@@ -265,8 +299,8 @@ read_completed_code b = go (read_in b).answer (read_code_lem b)
 
     go : (a : Answer) → answer_code a ≡ read_code b
         → completed_code (completed_from a s) ≡ code_with (unless_code (read_code b) (first_code (complete_order s [] []))) (entries_of s)
-    go Accepted e = complete_code s ∙ rw (← e) (sheet_code_lem s)
-    go (Refused r) e = rw (← e, never_zero r, never_zero r)
+    go (Ok u) e = complete_code s ∙ rw (← e) (sheet_code_lem s)
+    go (Err r) e = rw (← e, never_zero r, never_zero r)
 
-pub read_complete_clauses : (b : List ℕ) {y : Completed} → y ≡ read_completed b → (y ≡ read_completed b) × (completed_code y ≡ bytes_code b)
+pub read_complete_clauses : (b : List ℕ) {y : Result Entries Refusal} → y ≡ read_completed b → (y ≡ read_completed b) × (completed_code y ≡ bytes_code b)
 read_complete_clauses b e = (e, ap completed_code e ∙ read_completed_code b)

@@ -1,6 +1,8 @@
 -- The laws of writing: what it comes to, by what the sheet holds and how much room there is.
 -- Assumes nothing.
-use mathlib.Core.Path.{◌≡◌, sym, ap, ◌∙◌}
+use Rattle.std.specs.Prelude.{Result, Ok, Err}
+use mathlib.Core.Path.{◌≡◌, sym, ap, ◌∙◌, refl}
+use mathlib.Core.Bool.{Bool, true, false, cond}
 use mathlib.Core.List.{List, [], ◌∷◌, ◌++◌}
 use Prim.Native.Nat.{ℕ, ◌+◌, ◌*◌, ◌≤◌, ◌<◌}
 use native.Mathlib.Omega.{arith}
@@ -8,40 +10,40 @@ use lib.ListN.{length, drop}
 use lib.Seq.{sets}
 use borrow.Author.Tests.{lt-ltb, le-ltb}
 use Rattle.fields.specs.declared.refusal.Refusal.{Refusal}
-use Rattle.fields.specs.declared.refusal.Refusal.TheVariants.{Unreachable, BufferTooShort}
-use Rattle.fields.specs.Order.{first_of}
-use Rattle.fields.specs.declared.answer.Answer.{Answer}
+use Rattle.fields.specs.declared.refusal.Refusal.TheVariants.{BufferTooShort}
+use Rattle.fields.specs.Order.{Answer, ◌when◌, first_of}
 use Rattle.entries.specs.declared.sheet.Sheet.{Sheet}
 use Rattle.layout.specs.Numbers.{fours}
 use Rattle.layout.specs.Layout.{version1, whole_length, prefix_of, tail_head, courses_figures, layout}
 use Rattle.layout.proofs.LayoutLaws.{whole_of_one, layout_stored}
-use Rattle.sheet.specs.Complete.{entries_of, courses_of, status_of, order_after, Valid}
+use Rattle.sheet.specs.Complete.{entries_of, courses_of, completed_of, is_thirty, order_after, Valid}
 use Rattle.sheet.specs.Writing.{bytes_of, size_of, no_room, WriteReply, write_reply, written, written_entries}
 use Rattle.sheet.specs.declared.complete.Entries.{Entries}
-use Rattle.sheet.specs.declared.complete.Completeness as Status
-use Rattle.sheet.specs.declared.writing.Written as Written
-use Rattle.sheet.proofs.CompleteLaws.{complete_first, courses_length}
+use Rattle.sheet.proofs.CompleteLaws.{complete_first, entries_are, courses_length}
 
 abbrev pub denied : Refusal → List ℕ → WriteReply
-denied r buf = record { answer = Written.TheVariants.Refused r; buffer = buf }
+denied r buf = record { answer = Err r; buffer = buf }
 
 -- ---- by the answer to what is asked first
 
-module _ (s : Sheet) (buf : List ℕ) where
-  by_status : written s buf ≡ write_reply (first_of (order_after (status_of s) [] (no_room (entries_of s) (length buf) ∷ []))) (entries_of s) buf
+module _ (s : Sheet) (buf : List ℕ) {y : Result Entries Refusal} (q : y ≡ completed_of s) where
+  by_answer : written s buf ≡ write_reply (first_of (order_after y [] (no_room (entries_of s) (length buf) ∷ []))) (entries_of s) buf
   unfolding written
-  by_status =
-      ap (λ (a : Answer). write_reply a (entries_of s) buf) (complete_first s [] (no_room (entries_of s) (length buf) ∷ []))
+  by_answer =
+      let after = no_room (entries_of s) (length buf) ∷ [] in
+      ap (λ (a : Answer). write_reply a (entries_of s) buf) (complete_first s [] after)
+      ∙ ap (λ (y : Result Entries Refusal). write_reply (first_of (order_after y [] after)) (entries_of s) buf) (sym q)
 
-  pub write_unreachable : status_of s ≡ Status.TheVariants.Unreachable → written s buf ≡ denied Unreachable buf
-  write_unreachable e = by_status ∙ rw e
+  pub write_refused : {r : Refusal} → y ≡ Err r → written s buf ≡ denied r buf
+  write_refused {r} k = by_answer ∙ rw k (go (is_thirty r))
+    where
+      go : (b : Bool) → write_reply (first_of (cond b [] [] ++ (r when true) ∷ [])) (entries_of s) buf ≡ denied r buf
+      go true = refl
+      go false = refl
 
-  pub write_refused : {r : Refusal} → status_of s ≡ Status.TheVariants.Refused r → written s buf ≡ denied r buf
-  write_refused e = by_status ∙ rw e
-
-  pub write_complete : status_of s ≡ Status.TheVariants.Complete → written s buf ≡ written_entries (entries_of s) buf
+  pub write_complete : {e : Entries} → y ≡ Ok e → written s buf ≡ written_entries e buf
   unfolding written_entries
-  write_complete e = by_status ∙ rw e
+  write_complete k = by_answer ∙ rw (k, entries_are s q k)
 
 -- ---- of the entries of a complete sheet
 
@@ -51,7 +53,7 @@ module _ (e : Entries) (buf : List ℕ) where
   no_room_lem l = rw (lt-ltb _ _ l)
 
   pub done : size_of e ≤ length buf
-      → written_entries e buf ≡ record { answer = Written.TheVariants.Bytes (size_of e); buffer = bytes_of e ++ drop (size_of e) buf }
+      → written_entries e buf ≡ record { answer = Ok (size_of e); buffer = bytes_of e ++ drop (size_of e) buf }
   unfolding written_entries
   done l = rw (le-ltb _ _ l)
 
@@ -71,15 +73,15 @@ module _ (e : Entries) (buf : List ℕ) where
   pub stored_done : {p q r : List ℕ} → Valid e → 60 + 20 * e.count ≤ length buf
       → p ≡ sets buf 0 (prefix_of version1 e.count e.tank) → q ≡ sets p 27 (tail_head e.site e.anchors e.count)
       → r ≡ sets q 60 (fours (courses_figures (courses_of e)))
-      → written_entries e buf ≡ record { answer = Written.TheVariants.Bytes (60 + 20 * e.count); buffer = r }
+      → written_entries e buf ≡ record { answer = Ok (60 + 20 * e.count); buffer = r }
   stored_done {r = r} v l i j k =
       let m : size_of e ≤ length buf = omega arith in
       done m
-      ∙ ap (λ (b : List ℕ). record { answer = Written.TheVariants.Bytes (size_of e); buffer = b }) (sym (entries_stored v m i j k))
-      ∙ ap (λ (n : ℕ). record { answer = Written.TheVariants.Bytes n; buffer = r }) (whole_of_one e.count)
+      ∙ ap (λ (b : List ℕ). record { answer = Ok (size_of e); buffer = b }) (sym (entries_stored v m i j k))
+      ∙ ap (λ (n : ℕ). record { answer = Ok n; buffer = r }) (whole_of_one e.count)
 
 pub entries_clauses : {v w : WriteReply} → v ≡ w → (w.answer ≡ v.answer) × (w.buffer ≡ v.buffer)
 entries_clauses e = (ap (λ (z : WriteReply). z.answer) (sym e), ap (λ (z : WriteReply). z.buffer) (sym e))
 
-pub reply_is : {v : WriteReply} {w : Written.Written} {b : List ℕ} → w ≡ v.answer → b ≡ v.buffer → v ≡ record { answer = w; buffer = b }
+pub reply_is : {v : WriteReply} {w : Result ℕ Refusal} {b : List ℕ} → w ≡ v.answer → b ≡ v.buffer → v ≡ record { answer = w; buffer = b }
 reply_is e f = rw (e, f)

@@ -1,12 +1,12 @@
 -- Reading a sheet, through the steps: document 01, "Filling in" ("Reading is the same as an empty sheet, then tank, site, anchors and the
 -- courses in turn; the first refusal ends it and the answer holds an empty sheet"). And the round trips: demand 2, "A sheet read and
 -- written again has the same bytes, and a complete sheet written and read again is the same sheet".
-use Rattle.std.specs.Prelude.{◌≡◌, cond, List, [], ◌∷◌, ◌++◌, map, ℕ, ◌≤◌, eqb, length, take, drop}
+use Rattle.std.specs.Prelude.{◌≡◌, cond, List, [], ◌∷◌, ◌++◌, map, ℕ, ◌≤◌, eqb, length, take, drop, Result, Ok}
 use Rattle.fields.specs.Refusal.{plain}
 use Rattle.fields.specs.declared.refusal.Code.{Code}
-use Rattle.fields.specs.Order.{first_of, first_code, answer_code}
-use Rattle.fields.specs.declared.answer.Answer.{Answer}
-use Rattle.fields.specs.declared.answer.Answer.TheVariants.{Accepted, Refused}
+use Rattle.std.specs.Result.{result_and}
+use Rattle.fields.specs.declared.refusal.Refusal.{Refusal}
+use Rattle.fields.specs.Order.{Answer, first_of, reply_unless, first_code, answer_code}
 use Rattle.entries.specs.Sheet.{empty_sheet, held, height_of}
 use Rattle.entries.specs.declared.sheet.Tank.{Tank}
 use Rattle.entries.specs.declared.sheet.Site.{Site}
@@ -15,38 +15,41 @@ use Rattle.entries.specs.declared.sheet.Sheet.{Sheet}
 use Rattle.layout.specs.Numbers.{two_in}
 use Rattle.layout.specs.Layout.{Version, version1}
 use Rattle.layout.specs.Header.{tank_in, site_in, anchors_in, courses_in, tail_in, count_of, read_order}
-use Rattle.sheet.specs.Steps.{Step, state_tank, state_site, state_anchors, add_course, order_of, filled, applied, accepted, unless, in_turn}
-use Rattle.sheet.specs.Complete.{complete_order, entries_of, no_entries, completed_of, CompletedCode, code_with}
+use Rattle.sheet.specs.Steps.{order_of, filled, applied, accepted, unless, in_turn}
+use Rattle.sheet.specs.declared.steps.Step.{Step}
+use Rattle.sheet.specs.declared.steps.Step.TheVariants.{StateTank, StateSite, StateAnchors, AddCourse}
+use Rattle.sheet.specs.Complete.{complete_order, entries_of, completed_of, CompletedCode, code_with}
 use Rattle.sheet.specs.Writing.{written, write_code}
-use Rattle.sheet.specs.declared.complete.Completeness as Status
-use Rattle.sheet.specs.declared.complete.Completed.{Completed}
+use Rattle.sheet.specs.declared.complete.Entries.{Entries}
 use Rattle.sheet.specs.declared.reading.Reading.{Reading}
 use Rattle.sheet.specs.declared.steps.Reply.{Reply}
-use Rattle.sheet.specs.declared.writing.Written as Written
 
 -- the steps that a tail with n courses holds, the last part first
 abbrev pub from_courses : ℕ → List ℕ → List Step
-from_courses n tail = map add_course (courses_in n (drop 33 tail))
+from_courses n tail = map AddCourse (courses_in n (drop 33 tail))
 
 abbrev pub from_anchors : ℕ → List ℕ → List Step
-from_anchors n tail = state_anchors (anchors_in (drop 20 tail)) ∷ from_courses n tail
+from_anchors n tail = StateAnchors (anchors_in (drop 20 tail)) ∷ from_courses n tail
 
 abbrev pub from_site : ℕ → List ℕ → List Step
-from_site n tail = state_site (site_in tail) ∷ from_anchors n tail
+from_site n tail = StateSite (site_in tail) ∷ from_anchors n tail
 
 unfoldable pub steps_in : Version → List ℕ → List Step
-steps_in v b = state_tank (tank_in (drop 3 b)) ∷ from_site (count_of v (two_in b)) (tail_in v b)
+steps_in v b = StateTank (tank_in (drop 3 b)) ∷ from_site (count_of v (two_in b)) (tail_in v b)
 
 unfoldable pub read_in : List ℕ → Reply
 read_in b = unless (first_of (read_order version1 b)) (in_turn empty_sheet (steps_in version1 b))
 
 -- with the height of the courses, which reading keeps for 34
-abbrev pub with_height : Reply → Reading
-with_height y = record { answer = y.answer; sheet = y.sheet; height = height_of (held y.sheet) }
+abbrev pub reading : Sheet → Reading
+reading s = record { sheet = s; height = height_of (held s) }
+
+abbrev pub with_height : Reply → Result Reading Refusal
+with_height y = reply_unless y.answer (reading y.sheet)
 
 -- a sheet with tank, site and anchors, before its courses (where `read_courses` begins)
 abbrev pub before_courses : Tank → Site → Anchors → Sheet
-before_courses t x a = filled (filled (filled empty_sheet (state_tank t)) (state_site x)) (state_anchors a)
+before_courses t x a = filled (filled (filled empty_sheet (StateTank t)) (StateSite x)) (StateAnchors a)
 
 -- The code of the answer is that of the bytes' own order, or that of the first step that is refused.
 abbrev pub unless_code : Code → Code → Code
@@ -60,11 +63,10 @@ unfoldable pub read_code : List ℕ → Code
 read_code b = unless_code (first_code (read_order version1 b)) (turn_code empty_sheet (steps_in version1 b))
 
 -- The entries of the sheet that bytes are: refused as reading is, then as a sheet that is handed in is.
-abbrev pub completed_from : Answer → Sheet → Completed
-completed_from Accepted s = completed_of s
-completed_from (Refused r) s = record { status = Status.TheVariants.Refused r; entries = no_entries }
+abbrev pub completed_from : Answer → Sheet → Result Entries Refusal
+completed_from a s = result_and a (completed_of s)
 
-unfoldable pub read_completed : List ℕ → Completed
+unfoldable pub read_completed : List ℕ → Result Entries Refusal
 read_completed b = completed_from (read_in b).answer (read_in b).sheet
 
 unfoldable pub bytes_code : List ℕ → CompletedCode
@@ -74,8 +76,8 @@ bytes_code b =
 -- Bytes that are read: writing the sheet into any buffer with room leaves just these bytes there, and the rest of it as it was.
 pub record WritesBack (b : List ℕ) (y : Reply) : Type 0 where
   pub same : answer_code y.answer ≡ plain 0 → (buf : List ℕ) → length b ≤ length buf
-      → written y.sheet buf ≡ record { answer = Written.TheVariants.Bytes (length b); buffer = b ++ drop (length b) buf }
+      → written y.sheet buf ≡ record { answer = Ok (length b); buffer = b ++ drop (length b) buf }
 
 -- A sheet that is written: the bytes written are read as the same sheet.
-pub record ReadsBack (s : Sheet) (w : Written.Written) (buf : List ℕ) : Type 0 where
+pub record ReadsBack (s : Sheet) (w : Result ℕ Refusal) (buf : List ℕ) : Type 0 where
   pub same : (write_code w).code ≡ plain 0 → read_in (take (write_code w).bytes buf) ≡ accepted s

@@ -1,68 +1,57 @@
 -- The steps that fill a sheet in, and the sheets that they leave: document 01, "Filling in", "Refusals that come from the state" and
 -- "Order"; document 02, S-1.
-use Rattle.std.specs.Prelude.{◌≡◌, Bool, true, false, not, ◌&&◌, List, [], ◌∷◌, ◌++◌, ◌+◌, leb, set}
+use Rattle.std.specs.Prelude.{◌≡◌, Bool, true, false, not, ◌&&◌, List, [], ◌∷◌, ◌++◌, ◌+◌, leb, set, Option, Some, None, Ok, Err}
 use Rattle.fields.specs.declared.refusal.Refusal.{Refusal}
 use Rattle.fields.specs.declared.refusal.Refusal.TheVariants.{Unreachable, TankStated, NoTank, CoursesFull}
-use Rattle.fields.specs.Order.{Condition, ◌when◌, first_of}
-use Rattle.fields.specs.declared.answer.Answer.{Answer}
-use Rattle.fields.specs.declared.answer.Answer.TheVariants.{Accepted, Refused}
+use Rattle.fields.specs.Order.{Answer, Condition, ◌when◌, first_of}
 use Rattle.entries.specs.Sheet.{too_high, empty_sheet, held, height_of, tank_flaws, site_flaws, anchor_flaws, course_flaws, tank_of}
 use Rattle.parts.specs.Parts.{slots_reachable, parts_reachable}
 use Rattle.entries.specs.declared.sheet.Tank.{Tank}
-use Rattle.entries.specs.declared.sheet.Site.{Site}
 use Rattle.entries.specs.declared.sheet.Anchors.{Anchors}
-use Rattle.entries.specs.declared.sheet.Course.{Course}
-use Rattle.entries.specs.declared.sheet.TankEntry as TankEntry
-use Rattle.entries.specs.declared.sheet.SiteEntry as SiteEntry
-use Rattle.entries.specs.declared.sheet.AnchorsEntry as AnchorsEntry
 use Rattle.entries.specs.declared.sheet.Sheet.{Sheet}
+use Rattle.sheet.specs.declared.steps.Step.{Step}
+use Rattle.sheet.specs.declared.steps.Step.TheVariants.{StateTank, StateSite, StateAnchors, AddCourse}
 use Rattle.sheet.specs.declared.steps.Reply.{Reply}
 
-pub data Step : Type 0 where
-  state_tank : Tank → Step
-  state_site : Site → Step
-  state_anchors : Anchors → Step
-  add_course : Course → Step
-
-abbrev pub tank_blank : TankEntry.TankEntry → Bool
-tank_blank TankEntry.TheVariants.Blank = true
-tank_blank (TankEntry.TheVariants.Filled t) = false
+abbrev pub tank_blank : Option Tank → Bool
+tank_blank None = true
+tank_blank (Some t) = false
 
 -- The order of refusals of each step, 30 aside.
 -- Tank: 31, 16, 17. Site: 32, 16. Anchors: 32, 16, 18. Course: 32, 33, 16, 17, 34.
 abbrev pub order_of : Sheet → Step → List Condition
-order_of s (state_tank t) = (TankStated when not (tank_blank s.tank)) ∷ tank_flaws t
-order_of s (state_site x) = (NoTank when tank_blank s.tank) ∷ site_flaws x
-order_of s (state_anchors a) = (NoTank when tank_blank s.tank) ∷ anchor_flaws (tank_of s.tank).diameter a
-order_of s (add_course c) =
+order_of s (StateTank t) = (TankStated when not (tank_blank s.tank)) ∷ tank_flaws t
+order_of s (StateSite x) = (NoTank when tank_blank s.tank) ∷ site_flaws x
+order_of s (StateAnchors a) = (NoTank when tank_blank s.tank) ∷ anchor_flaws (tank_of s.tank).diameter a
+order_of s (AddCourse c) =
     (NoTank when tank_blank s.tank)
     ∷ (CoursesFull when leb 12 s.count)
     ∷ (course_flaws c ++ too_high (height_of (held s)) c ∷ [])
 
 -- what an accepted step leaves
 abbrev pub filled : Sheet → Step → Sheet
-filled s (state_tank t) =
-    record { tank = TankEntry.TheVariants.Filled t; site = s.site; anchors = s.anchors; courses = s.courses; count = s.count }
-filled s (state_site x) =
-    record { tank = s.tank; site = SiteEntry.TheVariants.Filled x; anchors = s.anchors; courses = s.courses; count = s.count }
-filled s (state_anchors a) =
-    record { tank = s.tank; site = s.site; anchors = AnchorsEntry.TheVariants.Filled a; courses = s.courses; count = s.count }
-filled s (add_course c) =
+filled s (StateTank t) =
+    record { tank = Some t; site = s.site; anchors = s.anchors; courses = s.courses; count = s.count }
+filled s (StateSite x) =
+    record { tank = s.tank; site = Some x; anchors = s.anchors; courses = s.courses; count = s.count }
+filled s (StateAnchors a) =
+    record { tank = s.tank; site = s.site; anchors = Some a; courses = s.courses; count = s.count }
+filled s (AddCourse c) =
     record { tank = s.tank; site = s.site; anchors = s.anchors; courses = set s.courses s.count c; count = s.count + 1 }
 
 -- a refused step leaves the sheet as it was
 abbrev pub kept : Answer → Sheet → Sheet → Sheet
-kept Accepted before after = after
-kept (Refused r) before after = before
+kept (Ok u) before after = after
+kept (Err r) before after = before
 
 abbrev pub replied : Answer → Sheet → Sheet → Reply
 replied a before after = record { answer = a; sheet = kept a before after }
 
 abbrev pub accepted : Sheet → Reply
-accepted s = record { answer = Accepted; sheet = s }
+accepted s = record { answer = Ok tt; sheet = s }
 
 abbrev pub refused : Refusal → Sheet → Reply
-refused r s = record { answer = Refused r; sheet = s }
+refused r s = record { answer = Err r; sheet = s }
 
 unfoldable pub applied : Sheet → Step → Reply
 applied s x = replied (first_of (order_of s x)) s (filled s x)
@@ -78,14 +67,14 @@ pub record LeftByRun (s : Sheet) : Type 0 where
 
 -- The anchors after a step, those before it being e; and those that a run states last, or none: S-1's "never stated" (`anchors_last`: they
 -- are what its sheet holds).
-abbrev pub anchors_after : AnchorsEntry.AnchorsEntry → Step → Answer → AnchorsEntry.AnchorsEntry
-anchors_after e (state_tank t) y = e
-anchors_after e (state_site x) y = e
-anchors_after e (state_anchors a) Accepted = AnchorsEntry.TheVariants.Filled a
-anchors_after e (state_anchors a) (Refused r) = e
-anchors_after e (add_course c) y = e
+abbrev pub anchors_after : Option Anchors → Step → Answer → Option Anchors
+anchors_after e (StateTank t) y = e
+anchors_after e (StateSite x) y = e
+anchors_after e (StateAnchors a) (Ok u) = Some a
+anchors_after e (StateAnchors a) (Err r) = e
+anchors_after e (AddCourse c) y = e
 
-abbrev pub last_anchors : AnchorsEntry.AnchorsEntry → Sheet → List Step → AnchorsEntry.AnchorsEntry
+abbrev pub last_anchors : Option Anchors → Sheet → List Step → Option Anchors
 last_anchors e s [] = e
 last_anchors e s (x ∷ xs) = last_anchors (anchors_after e x (applied s x).answer) (applied s x).sheet xs
 
@@ -103,8 +92,8 @@ stated s x = replied (first_of (unreachable s ∷ order_of s x)) s (filled s x)
 
 -- Several steps in turn; the first refusal ends them, and the answer holds an empty sheet.
 abbrev pub unless : Answer → Reply → Reply
-unless Accepted later = later
-unless (Refused r) later = refused r empty_sheet
+unless (Ok u) later = later
+unless (Err r) later = refused r empty_sheet
 
 abbrev pub in_turn : Sheet → List Step → Reply
 in_turn s [] = accepted s

@@ -1,17 +1,15 @@
 -- Writing a sheet: document 01, "Filling in" ("Writing fills the first 60 + 20 × n bytes, gives that number, and touches no later byte") and
 -- "Order"; document 02, S-1.
-use Rattle.std.specs.Prelude.{cond, List, [], ◌∷◌, ◌++◌, ℕ, ltb, eqb, length, drop}
+use Rattle.fields.specs.declared.refusal.Refusal.{Refusal}
+use Rattle.std.specs.Prelude.{cond, List, [], ◌∷◌, ◌++◌, ℕ, ltb, eqb, length, drop, Result, Ok, Err}
 use Rattle.fields.specs.Refusal.{plain, code_of}
 use Rattle.fields.specs.declared.refusal.Code.{Code}
 use Rattle.fields.specs.declared.refusal.Refusal.TheVariants.{BufferTooShort}
-use Rattle.fields.specs.Order.{Condition, ◌when◌, first_of, first_code}
-use Rattle.fields.specs.declared.answer.Answer.{Answer}
-use Rattle.fields.specs.declared.answer.Answer.TheVariants.{Accepted, Refused}
+use Rattle.fields.specs.Order.{Answer, Condition, ◌when◌, first_of, first_code}
 use Rattle.entries.specs.declared.sheet.Sheet.{Sheet}
 use Rattle.layout.specs.Layout.{version1, whole_length, layout}
 use Rattle.sheet.specs.Complete.{complete_order, entries_of, courses_of}
 use Rattle.sheet.specs.declared.complete.Entries.{Entries}
-use Rattle.sheet.specs.declared.writing.Written as Written
 
 -- the bytes of a complete sheet, and how many
 unfoldable pub bytes_of : Entries → List ℕ
@@ -30,12 +28,12 @@ write_order s room = complete_order s [] (no_room (entries_of s) room ∷ [])
 
 -- The answer, and the whole content of the buffer after it: no byte past the sheet's is touched, and after a refusal none at all.
 pub record WriteReply : Type 0 where
-  pub answer : Written.Written
+  pub answer : Result ℕ Refusal
   pub buffer : List ℕ
 
 abbrev pub write_reply : Answer → Entries → List ℕ → WriteReply
-write_reply Accepted e buf = record { answer = Written.TheVariants.Bytes (size_of e); buffer = bytes_of e ++ drop (size_of e) buf }
-write_reply (Refused r) e buf = record { answer = Written.TheVariants.Refused r; buffer = buf }
+write_reply (Ok u) e buf = record { answer = Ok (size_of e); buffer = bytes_of e ++ drop (size_of e) buf }
+write_reply (Err r) e buf = record { answer = Err r; buffer = buf }
 
 unfoldable pub written : Sheet → List ℕ → WriteReply
 written s buf = write_reply (first_of (write_order s (length buf))) (entries_of s) buf
@@ -49,9 +47,9 @@ pub record WriteCode : Type 0 where
   pub code : Code
   pub bytes : ℕ
 
-abbrev pub write_code : Written.Written → WriteCode
-write_code (Written.TheVariants.Bytes n) = record { code = plain 0; bytes = n }
-write_code (Written.TheVariants.Refused r) = record { code = code_of r; bytes = 0 }
+abbrev pub write_code : Result ℕ Refusal → WriteCode
+write_code (Ok n) = record { code = plain 0; bytes = n }
+write_code (Err r) = record { code = code_of r; bytes = 0 }
 
 unfoldable pub written_code : Sheet → ℕ → WriteCode
 written_code s room =

@@ -6,4 +6,3 @@ pub mod complete;
 pub mod reach;
 pub mod reading;
 pub mod steps;
-pub mod writing;

@@ -11,13 +11,6 @@ pub fn is_reachable(s: Sheet) -> bool
     ensures value { result ≡ reachable s }
     ensures left_by_run { T result ↔ LeftByRun s }
 {
-    let courses = s.courses;
-    let n = s.count;
-    if !slots::slots_reachable(courses, n) {
-        return false;
-    }
-    let tank = s.tank;
-    let site = s.site;
-    let anchors = s.anchors;
-    stated::parts_reachable(tank, site, anchors, n)
+    slots::slots_reachable(s.courses, s.count)
+        && stated::parts_reachable(s.tank, s.site, s.anchors, s.count)
 }

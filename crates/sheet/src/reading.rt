@@ -6,18 +6,17 @@ ghost use Rattle.fields.specs.Order.{answer_code};
 ghost use Rattle.entries.specs.Sheet.{empty_sheet};
 ghost use Rattle.layout.specs.Layout.{version1, tail_length};
 ghost use Rattle.layout.specs.Header.{Header};
-ghost use Rattle.sheet.specs.Steps.{refused, in_turn};
+ghost use Rattle.sheet.specs.Steps.{in_turn};
 ghost use Rattle.sheet.specs.Reading.{from_courses, before_courses, steps_in, read_in, with_height, read_code, WritesBack};
 
 use crate::steps;
 use crate::steps::Reply;
-use entries::{Anchors, AnchorsEntry, Course, Sheet, Site, SiteEntry, Tank, TankEntry, flaws};
-use fields::{Answer, Refusal};
+use entries::{Anchors, Course, MOST_COURSES, Sheet, Site, Tank, flaws};
+use fields::Refusal;
 
-// The answer to reading, the sheet, and the height of its courses.
-#[derive(Clone, Copy)]
+// A sheet that was read, and the height of its courses.
+#[derive(Clone, Copy, Debug, PartialEq, Eq)]
 pub struct Reading {
-    pub answer: Answer,
     pub sheet: Sheet,
     pub height: u64,
 }
@@ -29,89 +28,67 @@ pub fn read(bytes: &[u8]) -> Reply
     ensures code { answer_code result.answer ≡ read_code bytes.now }
     ensures writes_back { WritesBack bytes.now result }
 {
-    let reading = read_with_height(bytes);
-    let answer = reading.answer;
-    let sheet = reading.sheet;
-    Reply { answer, sheet }
+    match read_with_height(bytes) {
+        Ok(reading) => Reply {
+            answer: Ok(()),
+            sheet: reading.sheet,
+        },
+        Err(refusal) => Reply {
+            answer: Err(refusal),
+            sheet: Sheet::empty(),
+        },
+    }
 }
 
 // The same with the height of the courses, so that it need not be added up again.
-pub fn read_with_height(bytes: &[u8]) -> Reading
+pub fn read_with_height(bytes: &[u8]) -> Result<Reading, Refusal>
     ensures value { result ≡ with_height (read_in bytes.now) }
-    ensures code { answer_code result.answer ≡ read_code bytes.now }
+    ensures code { answer_code result ≡ read_code bytes.now }
 {
-    let flaw = layout::reading::header_flaw(bytes);
-    if let Answer::Refused(refusal) = flaw {
-        return without(refusal);
-    }
+    layout::reading::header_flaw(bytes)?;
     read_entries(bytes)
 }
 
-// No sheet, for this reason.
-fn without(refusal: Refusal) -> Reading
-    ensures { result ≡ with_height (refused refusal empty_sheet) }
-{
-    let sheet = Sheet::empty();
-    Reading {
-        answer: Answer::Refused(refusal),
-        sheet,
-        height: 0,
-    }
-}
-
 // The steps that the bytes hold, in turn: tank, site and anchors, and then the courses.
-fn read_entries(bytes: &[u8]) -> Reading
+fn read_entries(bytes: &[u8]) -> Result<Reading, Refusal>
     requires { Header bytes.now }
     ensures { result ≡ with_height (in_turn empty_sheet (steps_in version1 bytes.now)) }
 {
-    let tank = layout::reading::tank_at(bytes, 3);
-    let flaw = flaws::tank_flaw(tank);
-    if let Answer::Refused(refusal) = flaw {
-        return without(refusal);
-    }
+    let tank: Tank = layout::reading::entry_at(bytes, 3);
+    flaws::tank_flaw(tank)?;
     let tail = &bytes[27..];
-    let site = layout::reading::site_at(tail, 0);
-    let flaw = flaws::site_flaw(site);
-    if let Answer::Refused(refusal) = flaw {
-        return without(refusal);
-    }
-    let anchors = layout::reading::anchors_at(tail, 20);
-    let flaw = flaws::anchors_flaw(tank.diameter, anchors);
-    if let Answer::Refused(refusal) = flaw {
-        return without(refusal);
-    }
+    let site: Site = layout::reading::entry_at(tail, 0);
+    flaws::site_flaw(site)?;
+    let anchors: Anchors = layout::reading::entry_at(tail, 20);
+    flaws::anchors_flaw(tank.diameter, anchors)?;
     let n = layout::reading::count_in(bytes);
     read_courses(tank, site, anchors, tail, n)
 }
 
-fn read_courses(tank: Tank, site: Site, anchors: Anchors, tail: &[u8], n: usize) -> Reading
+fn read_courses(
+    tank: Tank,
+    site: Site,
+    anchors: Anchors,
+    tail: &[u8],
+    n: usize,
+) -> Result<Reading, Refusal>
     requires { (tail_length n ≤ length tail.now) × (n ≤ 12) }
     ensures { result ≡ with_height (in_turn (before_courses tank site anchors) (from_courses n tail.now)) }
 {
-    let blank = Course::blank();
-    let mut courses = [blank; 12];
+    let mut courses = [Course::blank(); MOST_COURSES];
     let mut height: u64 = 0;
-    let mut i: usize = 0;
-    while i < n {
-        let c = layout::reading::course_at(tail, 33 + 20 * i);
-        let flaw = steps::added_flaw(height, c);
-        if let Answer::Refused(refusal) = flaw {
-            return without(refusal);
-        }
+    for i in 0..n {
+        let c: Course = layout::reading::entry_at(tail, 33 + 20 * i);
+        steps::added_flaw(height, c)?;
         courses[i] = c;
-        height += c.width as u64;
-        i += 1;
+        height += u64::from(c.width);
     }
     let sheet = Sheet {
-        tank: TankEntry::Filled(tank),
-        site: SiteEntry::Filled(site),
-        anchors: AnchorsEntry::Filled(anchors),
+        tank: Some(tank),
+        site: Some(site),
+        anchors: Some(anchors),
         courses,
-        count: i,
+        count: n,
     };
-    Reading {
-        answer: Answer::Accepted,
-        sheet,
-        height,
-    }
+    Ok(Reading { sheet, height })
 }

@@ -1,4 +1,5 @@
-// Anchors, and wind on a tank that has none.
+// Anchors, and wind on a tank that has none. `as` widens, as in hoop.rt of `rules`; into an i64 there is
+// no From.
 ghost use Rattle.std.specs.Prelude.{◌≡◌, ◌*◌, ◌≤◌, ◌<◌};
 ghost use Rattle.exact.specs.Quotient.{whole};
 ghost use Rattle.fields.specs.Range.{In};
@@ -10,7 +11,7 @@ ghost use Rattle.rules.specs.Verdict.{VerdictFor};
 use rules::verdict::{Verdict, verdict_of};
 
 // The dead weight that resists uplift, num / den pounds: a fraction, so that a pull is rounded once.
-#[derive(Clone, Copy)]
+#[derive(Clone, Copy, Debug, PartialEq, Eq)]
 pub struct DeadWeight {
     pub num: u64,
     pub den: u64,
@@ -62,10 +63,7 @@ pub fn pull(moment: u64, weight: DeadWeight, circle: u32, count: u32) -> i64
 pub fn larger(wind: i64, quake: i64) -> u64
     ensures { result ≡ larger_pull wind quake }
 {
-    if wind < quake {
-        return exact::positive_part(quake);
-    }
-    exact::positive_part(wind)
+    exact::positive_part(wind.max(quake))
 }
 
 // Whether the anchors stand close enough.

@@ -1,4 +1,4 @@
-// Earthquake overturning of a self-anchored tank.
+// Earthquake overturning of a self-anchored tank. `as` widens, as in hoop.rt of `rules`.
 ghost use Rattle.std.specs.Prelude.{◌≡◌, ◌*◌, ◌≤◌, ◌<◌};
 ghost use Rattle.fields.specs.Range.{In};
 ghost use Rattle.stability.specs.Bounds.{most_plate, most_yield, most_shell, most_bottom, most_resistance};
@@ -8,7 +8,7 @@ ghost use Rattle.rules.specs.Verdict.{VerdictFor};
 use rules::verdict::{Verdict, verdict_of};
 
 // What an earthquake does to the edge of the bottom.
-#[derive(Clone, Copy)]
+#[derive(Clone, Copy, Debug, PartialEq, Eq)]
 pub enum Uplift {
     None,
     Lift,
@@ -56,12 +56,7 @@ pub fn bottom_weight(plate: u32, yield_stress: u32, level: u32, diameter: u32) -
     requires level_in { In 2 level }
     ensures { result ≡ bottom_weight plate yield_stress level diameter }
 {
-    let root = bottom_root(plate, yield_stress, level);
-    let cap = bottom_cap(level, diameter);
-    if root < cap {
-        return root;
-    }
-    cap
+    bottom_root(plate, yield_stress, level).min(bottom_cap(level, diameter))
 }
 
 // T: the resisting moment in foot-pounds.

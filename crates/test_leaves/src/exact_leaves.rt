@@ -1,67 +1,60 @@
 // The leaves of `exact`, numbered from 1.
-use crate::clamp::{field, figure};
+ghost use Rattle.std.specs.Prelude.{◌<◌};
+
+use crate::clamp::figure;
 use crate::print;
-use exact::Wide;
 use std::io;
 use std::io::Write;
 
-pub(crate) fn answer<W: Write>(
-    out: &mut W,
-    leaf: u64,
-    a: u64,
-    b: u64,
-    c: u64,
-    d: u64,
-) -> io::Result<()> {
+// The most that either number of a comparison may be.
+const MOST_SIDE: u64 = (1 << 53) - 1;
+
+// The greatest i64.
+const MOST_SIZE: u64 = i64::MAX as u64;
+
+pub(crate) fn answer<W: Write>(out: &mut W, leaf: u64, arguments: [u64; 4]) -> io::Result<()> {
+    let [a, b, c, d] = arguments;
     match leaf {
-        1 => print::number(out, exact::down(a, figure(1, b, 18446744073709551615))),
-        2 => print::number(out, exact::up(a, figure(1, b, 18446744073709551615))),
-        3 => up_signed(out, a, b, c),
-        4 => print::number(
-            out,
-            exact::greatest_root(figure(1, a, 18446744073709551615), b),
-        ),
-        5 => nearest(out, a, b),
-        6 => print::signed(out, signed(a, b)),
-        7 => quotient_down(out, a, b, c, d),
-        8 => quotient_up(out, a, b, c, d),
+        1 => print::value(out, exact::down(a, b.max(1))),
+        2 => print::value(out, exact::up(a, b.max(1))),
+        3 => print::value(out, up_signed(a, b, c)),
+        4 => print::value(out, exact::greatest_root(a.max(1), b)),
+        5 => print::float(out, nearest(a, b)),
+        6 => print::value(out, signed(a, b)),
+        // A product past 64 bits, divided by one factor after another. A function of the rounding, for both arms,
+        // would be no shorter, with its clause that it may be called.
+        7 => {
+            let first = exact::down(product(a, b), divisor(c));
+            print::wide(out, exact::down(first, divisor(d)))
+        }
+        8 => {
+            let first = exact::up(product(a, b), divisor(c));
+            print::wide(out, exact::up(first, divisor(d)))
+        }
         _ => print::out(out),
     }
 }
 
-fn up_signed<W: Write>(out: &mut W, negative: u64, size: u64, den: u64) -> io::Result<()> {
-    let below = figure(1, den, 9223372036854775807) as i64;
-    print::signed(out, exact::up_signed(signed(negative, size), below))
+fn up_signed(negative: u64, size: u64, den: u64) -> i64 {
+    exact::up_signed(signed(negative, size), den.clamp(1, MOST_SIZE) as i64)
 }
 
-fn nearest<W: Write>(out: &mut W, need: u64, capacity: u64) -> io::Result<()> {
-    print::float(
-        out,
-        exact::nearest(
-            figure(0, need, 9007199254740991),
-            figure(1, capacity, 9007199254740991),
-        ),
-    )
+fn nearest(need: u64, capacity: u64) -> f64 {
+    exact::nearest(need.min(MOST_SIDE), capacity.clamp(1, MOST_SIDE))
 }
 
-// A product past 64 bits, divided by one factor after another.
-fn quotient_down<W: Write>(out: &mut W, a: u64, b: u64, c: u64, d: u64) -> io::Result<()> {
-    let num = Wide::product(a, field(0, b, 4294967295));
-    let first = num.down(field(1, c, 4294967295));
-    print::wide(out, first.down(field(1, d, 4294967295)))
+fn product(a: u64, b: u64) -> u128 {
+    exact::product(a, u64::from(figure(b)))
 }
 
-fn quotient_up<W: Write>(out: &mut W, a: u64, b: u64, c: u64, d: u64) -> io::Result<()> {
-    let num = Wide::product(a, field(0, b, 4294967295));
-    let first = num.up(field(1, c, 4294967295));
-    print::wide(out, first.up(field(1, d, 4294967295)))
+fn divisor(x: u64) -> u128
+    ensures { 0 < result }
+{
+    u128::from(figure(x).max(1))
 }
 
 // The number of this size, negative where `negative` is not 0.
 pub(crate) fn signed(negative: u64, size: u64) -> i64 {
-    let z = figure(0, size, 9223372036854775807) as i64;
-    if negative == 0 {
-        return z;
-    }
-    0 - z
+    let z = size.min(MOST_SIZE) as i64;
+    if negative == 0 { z } else { -z }
 }

@@ -1,22 +1,25 @@
 // The leaves of `fields`, numbered from 10.
-use crate::clamp::field;
+use crate::clamp::figure;
 use crate::print;
 use fields::Refusal;
 use std::io;
 use std::io::Write;
 
-pub(crate) fn answer<W: Write>(out: &mut W, leaf: u64, a: u64, b: u64) -> io::Result<()> {
-    let x = field(0, a, 4294967295);
-    let y = field(0, b, 4294967295);
+pub(crate) fn answer<W: Write>(out: &mut W, leaf: u64, arguments: [u64; 4]) -> io::Result<()> {
+    let [a, b, _, _] = arguments;
     match leaf {
-        10 => print::truth(out, fields::in_range(x, y)),
-        11 => print::number(out, fields::stress_area(x) as u64),
-        12 => print::refusal(out, refusal(a, y).code()),
+        10 => print::value(out, yes_or_no(fields::in_range(figure(a), figure(b)))),
+        11 => print::value(out, fields::stress_area(figure(a)).unwrap_or(0)),
+        12 => print::refusal(out, refusal(a, figure(b))),
         _ => print::out(out),
     }
 }
 
-// The refusals in the order of their numbers.
+fn yes_or_no(b: bool) -> &'static str {
+    if b { "yes" } else { "no" }
+}
+
+// The refusals in the order of their numbers. The place is the vectors', and is matched here alone.
 fn refusal(place: u64, field: u32) -> Refusal {
     match place {
         0 => Refusal::TooFewBytes,

@@ -3,6 +3,8 @@
 // line of its own. oracle/leaves.py numbers the functions, and makes both the vectors and what is to be written.
 #![tactic(auto)]
 
+ghost use Rattle.std.specs.Prelude.{◌≤◌, length};
+
 mod buckling_leaves;
 mod clamp;
 mod exact_leaves;
@@ -13,19 +15,11 @@ mod question_leaves;
 mod rule_leaves;
 mod weight_leaves;
 
-ghost use Rattle.std.specs.Prelude.{◌≤◌, ◌<◌, IfOk, length};
-ghost use Rattle.test_leaves.specs.Scan.{Scanned};
-
 use input::{read_full, zeros};
 use std::io;
 use std::io::{BufWriter, Write};
 
-#[derive(Clone, Copy)]
-struct Scan {
-    value: u64,
-    next: usize,
-}
-
+// The buffer has room for all vectors. A read that fails ends them.
 fn main(rt: HostRuntime) -> io::Result<()> {
     let mut space: [u8; 524288] = zeros();
     let n = read_full(&mut rt.stdin(), &mut space).count;
@@ -34,79 +28,60 @@ fn main(rt: HostRuntime) -> io::Result<()> {
     out.flush()
 }
 
+// Five numbers at a time; what the last line lacks is 0. A number takes a byte at least, so there are no more lines than
+// bytes, and the loop ends.
 fn run<W: Write>(out: &mut W, text: &[u8]) -> io::Result<()> {
-    let mut at: usize = 0;
-    while at < text.len() {
-        at = line(out, text, at)?;
+    let mut rest = text;
+    for _ in 0..text.len() {
+        if rest.is_empty() {
+            return Ok(());
+        }
+        let mut line = [0; 5];
+        for place in &mut line {
+            let word = first_word(rest);
+            *place = number(word);
+            rest = &rest[word.len()..];
+        }
+        answer(out, line)?;
     }
     Ok(())
 }
 
-// Answers the line that begins at this place, and gives the place after it.
-fn line<W: Write>(out: &mut W, text: &[u8], from: usize) -> io::Result<usize>
-    requires { from < length text.now }
-    ensures { IfOk result (λ next. (from < next) × (next ≤ length text.now)) }
+// As far as the first byte below the digits.
+fn first_word(text: &[u8]) -> &[u8]
+    ensures { length result.now ≤ length text.now }
 {
-    let leaf = number(text, from);
-    let a = number(text, leaf.next);
-    let b = number(text, a.next);
-    let c = number(text, b.next);
-    let d = number(text, c.next);
-    answer(out, leaf.value, a.value, b.value, c.value, d.value)?;
-    Ok(d.next)
+    let end = text.iter().position(|&byte| byte < b'0');
+    &text[..end.map_or(text.len(), |at| at + 1)]
 }
 
-fn answer<W: Write>(out: &mut W, leaf: u64, a: u64, b: u64, c: u64, d: u64) -> io::Result<()> {
-    if leaf < 10 {
-        return exact_leaves::answer(out, leaf, a, b, c, d);
-    }
-    if leaf < 20 {
-        return field_leaves::answer(out, leaf, a, b);
-    }
-    if leaf < 40 {
-        return rule_leaves::answer(out, leaf, a, b, c, d);
-    }
-    if leaf < 50 {
-        return question_leaves::answer(out, leaf, a, b, c);
-    }
-    if leaf < 51 {
-        return method_leaves::answer(out, leaf, a, b);
-    }
-    if leaf < 53 {
-        return weight_leaves::answer(out, leaf, a, b, c, d);
-    }
-    buckling_leaves::answer(out, leaf, a, b, c)
-}
-
-// The digits from `from` on, and the byte that ends them.
-fn number(text: &[u8], from: usize) -> Scan
-    requires { from ≤ length text.now }
-    ensures { Scanned from (length text.now) result.next }
-{
-    let mut value: u64 = 0;
-    let mut at = from;
-    while at < text.len() {
-        let byte = text[at];
-        at += 1;
-        if byte < b'0' {
-            return Scan { value, next: at };
-        }
-        value = with_digit(value, byte);
-    }
-    Scan { value, next: at }
+fn number(word: &[u8]) -> u64 {
+    word.iter().fold(0, |value, &byte| with_digit(value, byte))
 }
 
 // What is no digit, or would not fit, is passed over: the oracle writes neither.
 fn with_digit(value: u64, byte: u8) -> u64 {
-    if byte < b'0' {
+    if !byte.is_ascii_digit() {
         return value;
     }
-    if b'9' < byte {
-        return value;
+    let digit = u64::from(byte - b'0');
+    value
+        .checked_mul(10)
+        .and_then(|tens| tens.checked_add(digit))
+        .unwrap_or(value)
+}
+
+// The leaf's number is the vectors': it is matched here and in the leaf's module alone, to call a function.
+fn answer<W: Write>(out: &mut W, line: [u64; 5]) -> io::Result<()> {
+    let [leaf, a, b, c, d] = line;
+    let arguments = [a, b, c, d];
+    match leaf {
+        0..=9 => exact_leaves::answer(out, leaf, arguments),
+        10..=19 => field_leaves::answer(out, leaf, arguments),
+        20..=39 => rule_leaves::answer(out, leaf, arguments),
+        40..=49 => question_leaves::answer(out, leaf, arguments),
+        50 => method_leaves::answer(out, leaf, arguments),
+        51..=52 => weight_leaves::answer(out, leaf, arguments),
+        _ => buckling_leaves::answer(out, leaf, arguments),
     }
-    let digit = (byte - b'0') as u64;
-    if (18446744073709551615 - digit) / 10 < value {
-        return value;
-    }
-    value * 10 + digit
 }

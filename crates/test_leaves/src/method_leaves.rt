@@ -1,24 +1,21 @@
 // The leaves that take a method by its number, numbered from 50.
-use crate::clamp::field;
+use crate::clamp::figure;
 use crate::print;
+use fields::Refusal;
 use rules::hoop;
-use rules::method::{MethodChoice, method_of};
+use rules::method::Method;
 use std::io;
 use std::io::Write;
 
-pub(crate) fn answer<W: Write>(out: &mut W, leaf: u64, a: u64, b: u64) -> io::Result<()> {
+pub(crate) fn answer<W: Write>(out: &mut W, leaf: u64, arguments: [u64; 4]) -> io::Result<()> {
+    let [a, b, _, _] = arguments;
     match leaf {
-        50 => design_head(out, a, b),
+        50 => print::answer(out, design_head(a, b)),
         _ => print::out(out),
     }
 }
 
-fn design_head<W: Write>(out: &mut W, number: u64, h: u64) -> io::Result<()> {
-    match method_of(field(0, number, 4294967295)) {
-        MethodChoice::Chosen(m) => print::number(
-            out,
-            hoop::design_head(m, field(0, h, 4294967295)) as u64,
-        ),
-        MethodChoice::Refused(r) => print::refusal(out, r.code()),
-    }
+fn design_head(number: u64, h: u64) -> Result<u32, Refusal> {
+    let method = Method::try_from(figure(number))?;
+    Ok(hoop::design_head(method, figure(h)))
 }

@@ -1,226 +1,170 @@
 // The leaves of `rules` and `stability`, numbered from 20; those that take a method are in `method_leaves`, those
 // of a reduced weight in `weight_leaves`.
-use crate::clamp::{field, figure};
+ghost use Rattle.stability.specs.Anchors.{fraction};
+ghost use Rattle.stability.specs.Bounds.{WeightIn};
+
+use crate::clamp::{
+    ALLOWANCE, ANCHORED_CIRCLE, ANCHORS, AREA, CIRCLE, DIAMETER, EFFICIENCY, EXPOSURE, HEIGHT,
+    IMPORTANCE, LEVEL, MOMENT, NET_BOTTOM, PLATE, SPEED, STRESS, VERTICAL, WEIGHT, YIELD, field,
+    figure,
+};
 use crate::exact_leaves::signed;
 use crate::print;
-use rules::wind::SitePressure;
+use rules::verdict::Verdict;
 use rules::{hoop, wind};
 use stability::anchors::DeadWeight;
+use stability::earthquake::Uplift;
 use stability::{anchors, earthquake};
 use std::io;
 use std::io::Write;
 
-pub(crate) fn answer<W: Write>(
-    out: &mut W,
-    leaf: u64,
-    a: u64,
-    b: u64,
-    c: u64,
-    d: u64,
-) -> io::Result<()> {
+// The most that the resisting moment may be.
+const MOST_RESISTANCE: u64 = 13387754000;
+
+pub(crate) fn answer<W: Write>(out: &mut W, leaf: u64, arguments: [u64; 4]) -> io::Result<()> {
+    let [a, b, c, d] = arguments;
     match leaf {
-        20 => print::number(
-            out,
-            hoop::head(field(0, a, 4294967295), field(0, b, 4294967295)) as u64,
-        ),
-        21 => need(out, a, b, c, d),
-        22 => print::number(out, hoop::floor(field(0, a, 4294967295))),
-        23 => required(out, a, b, c),
-        24 => print::verdict(out, hoop::check(figure(0, a, 6906), field(100, b, 2000))),
-        25 => pressure(out, a, b, c),
-        26 => moment(out, a, b, c),
-        27 => standard_site(out, a),
-        _ => standing(out, leaf, a, b, c, d),
+        20 => print::value(out, hoop::head(figure(a), figure(b))),
+        21 => print::value(out, need(a, b, c, d)),
+        22 => print::value(out, hoop::floor(figure(a))),
+        23 => print::value(out, required(a, b, c)),
+        24 => print::verdict(out, hoop::check(a.min(6906), field(b, PLATE))),
+        25 => print::value(out, pressure(a, b, c)),
+        26 => print::value(out, moment(a, b, c)),
+        27 => print::answer(out, wind::standard_site(figure(a))),
+        _ => standing(out, leaf, arguments),
     }
 }
 
-fn standing<W: Write>(out: &mut W, leaf: u64, a: u64, b: u64, c: u64, d: u64) -> io::Result<()> {
+fn standing<W: Write>(out: &mut W, leaf: u64, arguments: [u64; 4]) -> io::Result<()> {
+    let [a, b, c, d] = arguments;
     match leaf {
-        28 => shell_weight(out, a, b, c),
-        29 => bottom_root(out, a, b, c),
-        30 => bottom_cap(out, a, b),
-        31 => bottom_weight(out, a, b, c, d),
-        32 => resistance(out, a, b, c),
-        33 => uplift(out, a, b),
-        34 => quake(out, a, b),
-        35 => pull(out, a, b, c, d),
-        36 => print::number(out, anchors::larger(signed(a, b), signed(c, d))),
-        37 => print::verdict(out, anchors::spacing(field(0, a, 300000), field(6, b, 200))),
-        38 => print::verdict(
-            out,
-            anchors::strength(figure(0, a, 800000000000), field(1, b, 2500)),
-        ),
-        39 => self_wind(out, a, b, c),
+        28 => print::value(out, shell_weight(a, b, c)),
+        29 => print::value(out, bottom_root(a, b, c)),
+        30 => print::value(out, bottom_cap(a, b)),
+        31 => print::value(out, bottom_weight(a, b, c, d)),
+        32 => print::value(out, resistance(a, b, c)),
+        33 => print::value(out, uplift(a, b)),
+        34 => print::verdict(out, quake(a, b)),
+        35 => print::value(out, whole_pull(a, b, c, d)),
+        36 => print::value(out, anchors::larger(signed(a, b), signed(c, d))),
+        37 => print::verdict(out, anchors::spacing(field(a, CIRCLE), field(b, ANCHORS))),
+        38 => print::verdict(out, strength(a, b)),
+        39 => print::verdict(out, self_wind(a, b, c)),
         _ => print::out(out),
     }
 }
 
-fn need<W: Write>(
-    out: &mut W,
-    h: u64,
-    diameter: u64,
-    stress: u64,
-    efficiency: u64,
-) -> io::Result<()> {
-    print::number(
-        out,
-        hoop::need(
-            field(0, h, 76800),
-            field(12000, diameter, 240000),
-            field(10000, stress, 40000),
-            field(50, efficiency, 100),
-        ),
+fn need(h: u64, diameter: u64, stress: u64, efficiency: u64) -> u64 {
+    hoop::need(
+        field(h, HEIGHT),
+        field(diameter, DIAMETER),
+        field(stress, STRESS),
+        field(efficiency, EFFICIENCY),
     )
 }
 
-fn required<W: Write>(out: &mut W, need: u64, allowance: u64, diameter: u64) -> io::Result<()> {
-    print::number(
-        out,
-        hoop::required(
-            figure(0, need, 6656),
-            field(0, allowance, 250),
-            field(0, diameter, 4294967295),
-        ),
+fn required(need: u64, allowance: u64, diameter: u64) -> u64 {
+    hoop::required(
+        need.min(6656),
+        field(allowance, ALLOWANCE),
+        figure(diameter),
     )
 }
 
-fn pressure<W: Write>(out: &mut W, exposure: u64, importance: u64, speed: u64) -> io::Result<()> {
-    print::number(
-        out,
-        wind::pressure(
-            field(50, exposure, 150),
-            field(100, importance, 125),
-            field(60, speed, 150),
-        ),
+fn pressure(exposure: u64, importance: u64, speed: u64) -> u64 {
+    wind::pressure(
+        field(exposure, EXPOSURE),
+        field(importance, IMPORTANCE),
+        field(speed, SPEED),
     )
 }
 
-fn moment<W: Write>(out: &mut W, pressure: u64, diameter: u64, height: u64) -> io::Result<()> {
-    print::number(
-        out,
-        wind::moment(
-            figure(0, pressure, 6480),
-            field(12000, diameter, 240000),
-            field(0, height, 76800),
-        ),
+fn moment(pressure: u64, diameter: u64, height: u64) -> u64 {
+    wind::moment(
+        pressure.min(6480),
+        field(diameter, DIAMETER),
+        field(height, HEIGHT),
     )
 }
 
-fn standard_site<W: Write>(out: &mut W, speed: u64) -> io::Result<()> {
-    match wind::standard_site(field(0, speed, 4294967295)) {
-        SitePressure::Given(p) => print::number(out, p),
-        SitePressure::Refused(r) => print::refusal(out, r.code()),
+fn shell_weight(weight: u64, vertical: u64, diameter: u64) -> u64 {
+    earthquake::shell_weight(
+        field(weight, WEIGHT),
+        field(vertical, VERTICAL),
+        field(diameter, DIAMETER),
+    )
+}
+
+fn bottom_root(plate: u64, yield_stress: u64, level: u64) -> u64 {
+    earthquake::bottom_root(
+        field(plate, NET_BOTTOM),
+        field(yield_stress, YIELD),
+        field(level, LEVEL),
+    )
+}
+
+fn bottom_cap(level: u64, diameter: u64) -> u64 {
+    earthquake::bottom_cap(field(level, LEVEL), field(diameter, DIAMETER))
+}
+
+fn bottom_weight(plate: u64, yield_stress: u64, level: u64, diameter: u64) -> u64 {
+    earthquake::bottom_weight(
+        field(plate, NET_BOTTOM),
+        field(yield_stress, YIELD),
+        field(level, LEVEL),
+        field(diameter, DIAMETER),
+    )
+}
+
+fn resistance(diameter: u64, shell: u64, bottom: u64) -> u64 {
+    earthquake::resistance(
+        field(diameter, DIAMETER),
+        shell.min(31830985),
+        bottom.min(1638400),
+    )
+}
+
+fn uplift(moment: u64, resistance: u64) -> &'static str {
+    match earthquake::uplift_of(field(moment, MOMENT), resistance.min(MOST_RESISTANCE)) {
+        Uplift::None => "none",
+        Uplift::Lift => "lift",
+        Uplift::Over => "over",
     }
 }
 
-fn shell_weight<W: Write>(
-    out: &mut W,
-    weight: u64,
-    vertical: u64,
-    diameter: u64,
-) -> io::Result<()> {
-    print::number(
-        out,
-        earthquake::shell_weight(
-            field(1, weight, 10000000),
-            field(0, vertical, 500),
-            field(12000, diameter, 240000),
-        ),
+fn quake(moment: u64, resistance: u64) -> Verdict {
+    earthquake::check(field(moment, MOMENT), resistance.clamp(1, MOST_RESISTANCE))
+}
+
+fn whole_pull(moment: u64, weight: u64, circle: u64, count: u64) -> i64 {
+    pull(
+        moment,
+        DeadWeight::whole(field(weight, WEIGHT)),
+        circle,
+        count,
     )
 }
 
-fn bottom_root<W: Write>(out: &mut W, plate: u64, yield_stress: u64, level: u64) -> io::Result<()> {
-    print::number(
-        out,
-        earthquake::bottom_root(
-            field(0, plate, 500),
-            field(30000, yield_stress, 50000),
-            field(1200, level, 76800),
-        ),
+pub(crate) fn pull(moment: u64, weight: DeadWeight, circle: u64, count: u64) -> i64
+    requires { WeightIn (fraction weight) }
+{
+    anchors::pull(
+        u64::from(field(moment, MOMENT)),
+        weight,
+        field(circle, ANCHORED_CIRCLE),
+        field(count, ANCHORS),
     )
 }
 
-fn bottom_cap<W: Write>(out: &mut W, level: u64, diameter: u64) -> io::Result<()> {
-    print::number(
-        out,
-        earthquake::bottom_cap(field(1200, level, 76800), field(12000, diameter, 240000)),
-    )
+fn strength(pull: u64, area: u64) -> Verdict {
+    anchors::strength(pull.min(800000000000), field(area, AREA))
 }
 
-fn bottom_weight<W: Write>(
-    out: &mut W,
-    plate: u64,
-    yield_stress: u64,
-    level: u64,
-    diameter: u64,
-) -> io::Result<()> {
-    print::number(
-        out,
-        earthquake::bottom_weight(
-            field(0, plate, 500),
-            field(30000, yield_stress, 50000),
-            field(1200, level, 76800),
-            field(12000, diameter, 240000),
-        ),
-    )
-}
-
-fn resistance<W: Write>(out: &mut W, diameter: u64, shell: u64, bottom: u64) -> io::Result<()> {
-    print::number(
-        out,
-        earthquake::resistance(
-            field(12000, diameter, 240000),
-            figure(0, shell, 31830985),
-            figure(0, bottom, 1638400),
-        ),
-    )
-}
-
-fn uplift<W: Write>(out: &mut W, moment: u64, resistance: u64) -> io::Result<()> {
-    print::uplift(
-        out,
-        earthquake::uplift_of(
-            field(0, moment, 1000000000),
-            figure(0, resistance, 13387754000),
-        ),
-    )
-}
-
-fn quake<W: Write>(out: &mut W, moment: u64, resistance: u64) -> io::Result<()> {
-    print::verdict(
-        out,
-        earthquake::check(
-            field(0, moment, 1000000000),
-            figure(1, resistance, 13387754000),
-        ),
-    )
-}
-
-fn pull<W: Write>(
-    out: &mut W,
-    moment: u64,
-    weight: u64,
-    circle: u64,
-    count: u64,
-) -> io::Result<()> {
-    print::signed(
-        out,
-        anchors::pull(
-            figure(0, moment, 1000000000),
-            DeadWeight::whole(field(1, weight, 10000000)),
-            field(1, circle, 300000),
-            field(6, count, 200),
-        ),
-    )
-}
-
-fn self_wind<W: Write>(out: &mut W, moment: u64, weight: u64, diameter: u64) -> io::Result<()> {
-    print::verdict(
-        out,
-        anchors::self_wind(
-            figure(0, moment, 1000000000),
-            field(1, weight, 10000000),
-            field(12000, diameter, 240000),
-        ),
+fn self_wind(moment: u64, weight: u64, diameter: u64) -> Verdict {
+    anchors::self_wind(
+        u64::from(field(moment, MOMENT)),
+        field(weight, WEIGHT),
+        field(diameter, DIAMETER),
     )
 }

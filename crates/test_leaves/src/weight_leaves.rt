@@ -1,50 +1,32 @@
 // The leaves of the dead weight that resists uplift in an earthquake, in ten-thousandths of a pound; numbered
 // from 51.
-use crate::clamp::{field, figure};
+use crate::clamp::{VERTICAL, WEIGHT, field};
 use crate::print;
-use stability::anchors;
+use crate::rule_leaves::pull;
 use stability::anchors::DeadWeight;
 use std::io;
 use std::io::Write;
 
-pub(crate) fn answer<W: Write>(
-    out: &mut W,
-    leaf: u64,
-    a: u64,
-    b: u64,
-    c: u64,
-    d: u64,
-) -> io::Result<()> {
+// The most that a dead weight may be.
+const MOST_PARTS: u64 = 100000000000;
+
+pub(crate) fn answer<W: Write>(out: &mut W, leaf: u64, arguments: [u64; 4]) -> io::Result<()> {
+    let [a, b, c, d] = arguments;
     match leaf {
-        51 => reduced(out, a, b),
-        52 => pull(out, a, b, c, d),
+        51 => print::value(out, reduced(a, b)),
+        52 => print::value(out, reduced_pull(a, b, c, d)),
         _ => print::out(out),
     }
 }
 
-fn reduced<W: Write>(out: &mut W, weight: u64, vertical: u64) -> io::Result<()> {
-    let left = DeadWeight::reduced(field(1, weight, 10000000), field(0, vertical, 500));
-    print::number(out, left.num)
+fn reduced(weight: u64, vertical: u64) -> u64 {
+    DeadWeight::reduced(field(weight, WEIGHT), field(vertical, VERTICAL)).num
 }
 
-fn pull<W: Write>(
-    out: &mut W,
-    moment: u64,
-    weight: u64,
-    circle: u64,
-    count: u64,
-) -> io::Result<()> {
+fn reduced_pull(moment: u64, weight: u64, circle: u64, count: u64) -> i64 {
     let left = DeadWeight {
-        num: figure(0, weight, 100000000000),
+        num: weight.min(MOST_PARTS),
         den: 10000,
     };
-    print::signed(
-        out,
-        anchors::pull(
-            figure(0, moment, 1000000000),
-            left,
-            field(1, circle, 300000),
-            field(6, count, 200),
-        ),
-    )
+    pull(moment, left, circle, count)
 }

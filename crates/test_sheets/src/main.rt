@@ -5,11 +5,11 @@
 
 ghost use Rattle.std.specs.Prelude.{◌+◌, ◌≤◌, ◌<◌, IfOk, length};
 
-use input::{read_full, zeros};
+use input::{Ended, read_full, zeros};
 use std::io;
 use std::io::{Read, Write};
 use text::marker;
-use text::printing::MOST_TEXT;
+use text::printing::{MOST_TEXT, text_in};
 
 // A sheet with its length has at most 65,537 bytes, so a full buffer has a whole one.
 const ROOM: usize = 131072;
@@ -28,7 +28,7 @@ fn main(rt: HostRuntime) -> io::Result<()> {
     )
 }
 
-// A proved loop has to end: this one counts its turns down, from a number that no input uses up.
+// A proved loop has to end: this one counts its turns, up to a number that no input uses up.
 fn mark_all<R: Read, W: Write>(
     from: &mut R,
     to: &mut W,
@@ -36,26 +36,16 @@ fn mark_all<R: Read, W: Write>(
     out: &mut [u8],
 ) -> io::Result<()> {
     let mut held: usize = 0;
-    let mut turns = u64::MAX;
-    while turns > 0 {
-        let end = fill(from, input, held);
-        let ended = end < input.len();
-        let next = mark_sheets(to, &input[..end], ended, out)?;
+    for _ in 0..u64::MAX {
+        let read = read_full(from, &mut input[held..]);
+        let ended = read.ended != Ended::Full;
+        let next = mark_sheets(to, &input[..held + read.count], ended, out)?;
         if ended {
             return Ok(());
         }
         held = keep(input, next);
-        turns -= 1;
     }
     Ok(())
-}
-
-// Reads on from this place, and gives the place where the input ends, or the buffer does.
-fn fill<R: Read>(from: &mut R, input: &mut [u8], held: usize) -> usize
-    requires { held ≤ length input.old }
-    ensures { result ≤ length input.old }
-{
-    held + read_full(from, &mut input[held..]).count
 }
 
 // Moves the bytes from this place on to the front, and gives their number.
@@ -63,17 +53,12 @@ fn keep(input: &mut [u8], from: usize) -> usize
     requires { from ≤ length input.old }
     ensures { result ≤ length input.old }
 {
-    let n = input.len() - from;
-    let mut i: usize = 0;
-    while i < n {
-        input[i] = input[from + i];
-        i += 1;
-    }
-    n
+    input.copy_within(from.., 0);
+    input.len() - from
 }
 
 // Marks the sheets that are whole, and gives the place after them; where the input has ended, also one that it cuts
-// off.
+// off. Each sheet's own length is the step to the next. The texts stand in one buffer, and are copied once.
 fn mark_sheets<W: Write>(
     to: &mut W,
     sheets: &[u8],
@@ -105,7 +90,7 @@ fn end_of(sheets: &[u8], at: usize, ended: bool) -> usize
     if rest < 2 {
         return at;
     }
-    let size = two(sheets[at], sheets[at + 1]);
+    let size = usize::from(u16::from_be_bytes([sheets[at], sheets[at + 1]]));
     if size <= rest - 2 {
         return at + 2 + size;
     }
@@ -113,12 +98,6 @@ fn end_of(sheets: &[u8], at: usize, ended: bool) -> usize
         return sheets.len();
     }
     at
-}
-
-fn two(high: u8, low: u8) -> usize
-    ensures { result ≤ 65535 }
-{
-    256 * high as usize + low as usize
 }
 
 // Writes the texts unless one more has room after them, and gives the place for it.
@@ -139,6 +118,6 @@ fn mark(sheet: &[u8], out: &mut [u8], used: usize) -> usize
     ensures { result ≤ length out.old }
 {
     let printed = marker::mark(sheet, &mut out[used..]);
-    let text = printed.text(&out[used..]);
+    let text = text_in(printed, &out[used..]);
     used + text.len()
 }

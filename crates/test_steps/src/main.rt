@@ -5,18 +5,18 @@
 // oracle/records.py has the format, and makes both the scripts and what is to be written.
 #![tactic(auto)]
 
-ghost use Rattle.std.specs.Prelude.{◌≤◌};
-
 mod figures;
 mod print;
 mod report;
 
-use compression::{Compression, shell_compression};
+use crate::figures::Figures;
+use compression::{Stresses, shell_compression};
 use entries::Sheet;
+use fields::Refusal;
 use input::read_full;
 use judge::judging;
 use reports::report::Judgement;
-use sheet::steps::Reply;
+use sheet::steps::{Reply, Step};
 use sheet::{reading, steps};
 use std::io;
 use std::io::{BufWriter, Read, Write};
@@ -24,11 +24,11 @@ use std::io::{BufWriter, Read, Write};
 // More records than any file has, so that the program ends.
 const MOST_RECORDS: usize = 100000;
 
-// Of a sheet that is built by hand; where it is judged or asked about, the method's number follows them.
-const SHEET_FIGURES: usize = 78;
-
 // The longest payload.
 const MOST_PAYLOAD: usize = 4096;
+
+// The longest buffer that is written into.
+const MOST_BUFFER: u32 = 512;
 
 fn main(rt: HostRuntime) -> io::Result<()> {
     let mut out = BufWriter::new(rt.alloc(), io::writer(&rt))?;
@@ -38,97 +38,66 @@ fn main(rt: HostRuntime) -> io::Result<()> {
 
 fn records<W: Write, R: Read>(out: &mut W, input: &mut R) -> io::Result<()> {
     let mut held = Sheet::empty();
-    let mut n: usize = 0;
-    while n < MOST_RECORDS {
-        let mut head = [0u8; 3];
+    for _ in 0..MOST_RECORDS {
+        let mut head = [0; 3];
         if read_full(input, &mut head).count < 3 {
             return Ok(());
         }
-        let size = 256 * figures::wide(head[1]) + figures::wide(head[2]);
-        if MOST_PAYLOAD < size {
+        let [code, high, low] = head;
+        let size = usize::from(u16::from_be_bytes([high, low]));
+        let mut space = [0; MOST_PAYLOAD];
+        let Some(payload) = space.get_mut(..size) else {
             return Ok(());
-        }
-        held = record(out, input, held, head[0], size)?;
-        n += 1;
+        };
+        read_full(input, payload);
+        held = answer(out, held, code, payload)?;
     }
     Ok(())
 }
 
-// The sheet after the record whose payload, of this size, comes next.
-fn record<W: Write, R: Read>(
-    out: &mut W,
-    input: &mut R,
-    held: Sheet,
-    code: u8,
-    size: usize,
-) -> io::Result<Sheet>
-    requires { size ≤ 4096 }
-{
-    let mut space = [0u8; MOST_PAYLOAD];
-    let payload = &mut space[..size];
-    read_full(input, payload);
-    answer(out, held, code, payload)
-}
-
-// The sheet after one record.
+// The sheet after one record. Its code is the file's, and is matched here alone, to call a function.
 fn answer<W: Write>(out: &mut W, held: Sheet, code: u8, payload: &[u8]) -> io::Result<Sheet> {
+    let mut figures = Figures::new(payload);
     match code {
         0 => shown(out, Sheet::empty()),
-        1 => replied(out, steps::state_tank(held, figures::tank(payload, 0))),
-        2 => replied(out, steps::state_site(held, figures::site(payload, 0))),
-        3 => replied(
-            out,
-            steps::state_anchors(held, figures::anchors(payload, 0)),
-        ),
-        4 => replied(out, steps::add_course(held, figures::course(payload, 0))),
-        5 => written(out, held, payload),
+        1 => replied(out, steps::take(held, Step::StateTank(figures.entry()))),
+        2 => replied(out, steps::take(held, Step::StateSite(figures.entry()))),
+        3 => replied(out, steps::take(held, Step::StateAnchors(figures.entry()))),
+        4 => replied(out, steps::take(held, Step::AddCourse(figures.entry()))),
+        5 => written(out, held, figures),
         6 => replied(out, reading::read(payload)),
-        7 => shown(out, figures::sheet(payload)),
+        7 => shown(out, figures.sheet()),
         8 => judged(out, held, marking::judge_bytes(payload)),
-        9 => judged(
-            out,
-            held,
-            judging::judge(
-                figures::figure(payload, SHEET_FIGURES),
-                figures::sheet(payload),
-            ),
-        ),
-        10 => judged(out, held, judging::judge(figures::figure(payload, 0), held)),
-        11 => asked(
-            out,
-            held,
-            shell_compression(
-                figures::figure(payload, SHEET_FIGURES),
-                figures::sheet(payload),
-            ),
-        ),
-        _ => asked(
-            out,
-            held,
-            shell_compression(figures::figure(payload, 0), held),
-        ),
+        9 => {
+            let s = figures.sheet();
+            judged(out, held, judging::judge(figures.figure(), s))
+        }
+        10 => judged(out, held, judging::judge(figures.figure(), held)),
+        11 => {
+            let s = figures.sheet();
+            asked(out, held, shell_compression(figures.figure(), s))
+        }
+        _ => asked(out, held, shell_compression(figures.figure(), held)),
     }
 }
 
 fn shown<W: Write>(out: &mut W, s: Sheet) -> io::Result<Sheet> {
-    print::held(out)?;
+    write!(out, "held")?;
     print::sheet(out, s)?;
     Ok(s)
 }
 
 fn replied<W: Write>(out: &mut W, reply: Reply) -> io::Result<Sheet> {
-    let answer = reply.answer;
-    let s = reply.sheet;
-    print::answer(out, answer)?;
-    print::sheet(out, s)?;
-    Ok(s)
+    print::answer(out, "ok", reply.answer)?;
+    print::sheet(out, reply.sheet)?;
+    Ok(reply.sheet)
 }
 
 // Writes into a buffer of the size that the payload gives, filled with a pattern.
-fn written<W: Write>(out: &mut W, held: Sheet, payload: &[u8]) -> io::Result<Sheet> {
-    let mut space = [0u8; 4096];
-    let size = figures::size(payload);
-    let fill = figures::figure(payload, 1) % 256;
+fn written<W: Write>(out: &mut W, held: Sheet, mut figures: Figures) -> io::Result<Sheet> {
+    let mut space = [0; MOST_BUFFER as usize];
+    let size = figures.figure().min(MOST_BUFFER) as usize;
+    let fill = (figures.figure() % 256) as u8;
     let room = &mut space[..size];
     figures::pattern(room, fill);
     print::written(out, complete::write(held, room))?;
@@ -138,15 +107,17 @@ fn written<W: Write>(out: &mut W, held: Sheet, payload: &[u8]) -> io::Result<She
 
 // The sheet that is held stays as it is.
 fn judged<W: Write>(out: &mut W, held: Sheet, judgement: Judgement) -> io::Result<Sheet> {
-    let answer = judgement.answer;
-    let report = judgement.report;
-    print::judged(out, answer)?;
-    report::report(out, report)?;
+    print::answer(out, "accepted", judgement.answer)?;
+    report::report(out, judgement.report)?;
     Ok(held)
 }
 
 // Nor does this question change it.
-fn asked<W: Write>(out: &mut W, held: Sheet, reply: Compression) -> io::Result<Sheet> {
+fn asked<W: Write>(
+    out: &mut W,
+    held: Sheet,
+    reply: Result<Stresses, Refusal>,
+) -> io::Result<Sheet> {
     print::compression(out, reply)?;
     Ok(held)
 }

@@ -1,36 +1,26 @@
-// A report as the rest of a line of text, in oracle/judged.py's letters.
-use crate::print::number;
-use reports::report::{AnchorChecks, CourseLine, Report, SelfChecks, Standing, Uses, Word};
+// A report as the rest of a line of text, in oracle/judged.py's letters; floats by their bits, in hexadecimal.
+use reports::report::{AnchorChecks, CourseLine, Report, SelfChecks, Standing, Word};
 use rules::verdict::Verdict;
 use stability::earthquake::Uplift;
 use std::io;
 use std::io::Write;
 
 pub(crate) fn report<W: Write>(out: &mut W, r: Report) -> io::Result<()> {
-    let called = r.word;
-    word(out, called)?;
-    text(out, b" wind")?;
-    number(out, r.pressure)?;
-    number(out, r.moment)?;
-    let way = r.standing;
-    standing(out, way)?;
-    let two = r.uses;
-    uses(out, two)?;
-    text(out, b" courses")?;
-    number(out, r.count as u64)?;
-    let all = r.lines;
-    lines(out, all)?;
-    text(out, b"\n")
+    write!(out, " {} wind {} {}", word(r.word), r.pressure, r.moment)?;
+    standing(out, r.standing)?;
+    let first = exact::bits(r.uses.first);
+    let second = exact::bits(r.uses.second);
+    write!(out, " uses {first:016x} {second:016x} courses {}", r.count)?;
+    for l in r.lines {
+        line(out, l)?;
+    }
+    writeln!(out)
 }
 
-fn text<W: Write>(out: &mut W, letters: &[u8]) -> io::Result<()> {
-    out.write_all(letters)
-}
-
-fn word<W: Write>(out: &mut W, w: Word) -> io::Result<()> {
+fn word(w: Word) -> &'static str {
     match w {
-        Word::Sound => text(out, b" sound"),
-        Word::Short => text(out, b" short"),
+        Word::Sound => "sound",
+        Word::Short => "short",
     }
 }
 
@@ -42,100 +32,40 @@ fn standing<W: Write>(out: &mut W, s: Standing) -> io::Result<()> {
 }
 
 fn self_anchored<W: Write>(out: &mut W, c: SelfChecks) -> io::Result<()> {
-    text(out, b" self")?;
-    let wind = c.wind;
-    verdict(out, wind)?;
-    number(out, c.resistance)?;
-    let lift = c.uplift;
-    uplift(out, lift)?;
-    let quake = c.quake;
-    verdict(out, quake)
+    write!(out, " self")?;
+    verdict(out, c.wind)?;
+    write!(out, " {} {}", c.resistance, uplift(c.uplift))?;
+    verdict(out, c.quake)
 }
 
 fn anchored<W: Write>(out: &mut W, c: AnchorChecks) -> io::Result<()> {
-    text(out, b" anchored")?;
-    signed(out, c.wind_pull)?;
-    signed(out, c.quake_pull)?;
-    let spacing = c.spacing;
-    verdict(out, spacing)?;
-    let strength = c.strength;
-    verdict(out, strength)
+    write!(out, " anchored {} {}", c.wind_pull, c.quake_pull)?;
+    verdict(out, c.spacing)?;
+    verdict(out, c.strength)
 }
 
-fn uplift<W: Write>(out: &mut W, u: Uplift) -> io::Result<()> {
+fn uplift(u: Uplift) -> &'static str {
     match u {
-        Uplift::None => text(out, b" none"),
-        Uplift::Lift => text(out, b" lift"),
-        Uplift::Over => text(out, b" over"),
+        Uplift::None => "none",
+        Uplift::Lift => "lift",
+        Uplift::Over => "over",
     }
-}
-
-fn uses<W: Write>(out: &mut W, u: Uses) -> io::Result<()> {
-    text(out, b" uses")?;
-    float(out, u.first)?;
-    float(out, u.second)
-}
-
-fn lines<W: Write>(out: &mut W, all: [CourseLine; 12]) -> io::Result<()> {
-    let mut i: usize = 0;
-    while i < 12 {
-        let l = all[i];
-        line(out, l)?;
-        i += 1;
-    }
-    Ok(())
 }
 
 fn line<W: Write>(out: &mut W, l: CourseLine) -> io::Result<()> {
-    let v = l.verdict;
-    if is_blank(l, v) {
-        return text(out, b" .");
+    if is_blank(l) {
+        return write!(out, " .");
     }
-    text(out, b" |")?;
-    number(out, l.need)?;
-    number(out, l.required)?;
-    number(out, l.plate as u64)?;
-    verdict(out, v)
+    write!(out, " | {} {} {}", l.need, l.required, l.plate)?;
+    verdict(out, l.verdict)
 }
 
-// Whether this is the blank line past the courses; v is its verdict.
-fn is_blank(l: CourseLine, v: Verdict) -> bool {
-    if l.need != 0 {
-        return false;
-    }
-    if l.required != 0 {
-        return false;
-    }
-    if l.plate != 0 {
-        return false;
-    }
-    let Verdict::Short(x) = v else {
-        return false;
-    };
-    exact::bits(x) == 0
+// Whether this is the blank line past the courses, to the bit: -0.0 == 0.0.
+fn is_blank(l: CourseLine) -> bool {
+    l == CourseLine::blank() && exact::bits(l.verdict.used()) == 0
 }
 
 fn verdict<W: Write>(out: &mut W, v: Verdict) -> io::Result<()> {
-    match v {
-        Verdict::Holds(x) => {
-            text(out, b" holds")?;
-            float(out, x)
-        }
-        Verdict::Short(x) => {
-            text(out, b" short")?;
-            float(out, x)
-        }
-    }
-}
-
-fn signed<W: Write>(out: &mut W, z: i64) -> io::Result<()> {
-    if z < 0 {
-        return write!(out, " -{}", exact::magnitude(z));
-    }
-    number(out, exact::magnitude(z))
-}
-
-// A float by its bits, in hexadecimal.
-fn float<W: Write>(out: &mut W, x: f64) -> io::Result<()> {
-    write!(out, " {:016x}", exact::bits(x))
+    let word = if v.holds() { "holds" } else { "short" };
+    write!(out, " {word} {:016x}", exact::bits(v.used()))
 }

@@ -7,22 +7,16 @@ ghost use Rattle.lines.specs.Justified.{TextJustified};
 ghost use Rattle.lines.specs.Text.{most_text};
 ghost use Rattle.text.specs.Printing.{printed, sizes_of, printed_sizes};
 ghost use Rattle.marking.specs.Marking.{marked};
-ghost use Rattle.text.specs.Marking.{marked_text, most_bytes};
+ghost use Rattle.text.specs.Marking.{marked_text};
 
 use crate::printing;
-use crate::printing::Printed;
+use crate::printing::TooSmall;
 
 // One byte more than the longest sheet has: nothing past it makes a difference to the text.
 pub const MOST_BYTES: usize = 301;
 
-pub fn most_bytes() -> usize
-    ensures { result ≡ most_bytes }
-{
-    MOST_BYTES
-}
-
 // Reads the sheet that these bytes hold, judges it by D100, and fills the first bytes of the buffer with the text.
-pub fn mark(bytes: &[u8], out: &mut [u8]) -> Printed
+pub fn mark(bytes: &[u8], out: &mut [u8]) -> Result<usize, TooSmall>
     ensures value { result ≡ (printed (marked_text bytes.now) out.old).answer }
     ensures buffer { out.new ≡ (printed (marked_text bytes.now) out.old).buffer }
     ensures code { sizes_of result ≡ printed_sizes (marked_text bytes.now) (length out.old) }

@@ -8,32 +8,15 @@ use reports::report::Judgement;
 // A buffer of this length has room for any text.
 pub const MOST_TEXT: usize = 1308;
 
-// Both cases give the length of the text. Where it has no room, no byte of the buffer is touched.
-#[derive(Clone, Copy)]
-pub enum Printed {
-    Written(usize),
-    TooSmall(usize),
+// The text has no room, and no byte of the buffer is touched.
+#[derive(Clone, Copy, Debug, PartialEq, Eq)]
+pub struct TooSmall {
+    // The length of the text.
+    pub needed: usize,
 }
 
-impl Printed {
-    // The text in the buffer that it was written to.
-    pub fn text<'a>(self, out: &'a [u8]) -> &'a [u8]
-        ensures { result.now ≡ take (sizes_of self).bytes out.now }
-    {
-        match self {
-            Printed::Written(length) => {
-                if out.len() < length {
-                    return out;
-                }
-                &out[..length]
-            }
-            Printed::TooSmall(_) => &out[..0],
-        }
-    }
-}
-
-// Fills the first bytes of the buffer with the text, and touches no later one.
-pub fn print(j: Judgement, out: &mut [u8]) -> Printed
+// Fills the first bytes of the buffer with the text, gives its length, and touches no later byte.
+pub fn print(j: Judgement, out: &mut [u8]) -> Result<usize, TooSmall>
     ensures value { result ≡ (printed (text_of j) out.old).answer }
     ensures buffer { out.new ≡ (printed (text_of j) out.old).buffer }
     ensures code { sizes_of result ≡ printed_sizes (text_of j) (length out.old) }
@@ -42,18 +25,26 @@ pub fn print(j: Judgement, out: &mut [u8]) -> Printed
     if out.len() < MOST_TEXT {
         return print_small(j, out);
     }
-    Printed::Written(lines::put_text(out, j))
+    Ok(lines::put_text(out, j))
 }
 
 // By way of an array, since the length of the text is known only when it is made.
-fn print_small(j: Judgement, out: &mut [u8]) -> Printed
+fn print_small(j: Judgement, out: &mut [u8]) -> Result<usize, TooSmall>
     ensures { Prints (text_of j) out.old result out.new }
 {
     let mut space = [0u8; MOST_TEXT];
     let size = lines::put_text(&mut space, j);
     if out.len() < size {
-        return Printed::TooSmall(size);
+        return Err(TooSmall { needed: size });
     }
-    words::put(out, 0, &space[..size]);
-    Printed::Written(size)
+    out[..size].copy_from_slice(&space[..size]);
+    Ok(size)
+}
+
+// The text in the buffer that it was written to; none where it had no room.
+pub fn text_in(printed: Result<usize, TooSmall>, out: &[u8]) -> &[u8]
+    ensures { result.now ≡ take (sizes_of printed).bytes out.now }
+{
+    let bytes = printed.unwrap_or(0).min(out.len());
+    &out[..bytes]
 }

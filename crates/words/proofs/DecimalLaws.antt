@@ -17,7 +17,8 @@ use mir.Facts.{to_z-of_z}
 use borrow.Author.Tests.{lt-ltb, le-ltb}
 use Rattle.exact.proofs.SignedLaws.{below_zero}
 use Rattle.words.specs.Decimal.{digit, two_digits, decimal_in, decimal, signed, value_after}
-use Rattle.words.specs.Stored.{Stored}
+use Rattle.words.specs.Stored.{Appends}
+use Rattle.words.specs.declared.store.Text.{Text}
 
 -- any number of turns from n on gives the same digits
 turns : (j k n : ℕ) → n ≤ j → n ≤ k → decimal_in j n ≡ decimal_in k n
@@ -139,6 +140,5 @@ signed_above z f t = rw (to_z-of_z f) (above z (rw (to_z-of_z f) at t))
     above (negsuc n) t = absurd (subst T t tt)
 
 -- a number handed on
-pub signed_same : {buf b : List ℕ} {at i : ℕ} (z : ℤ) → SFits w64 z → Stored buf at (0x20 ∷ signed (to_z w64 (of_z w64 z))) b i
-    → Stored buf at (0x20 ∷ signed z) b i
+pub signed_same : {n : ℕ} {a b : Text} (z : ℤ) → SFits w64 z → Appends n a (0x20 ∷ signed (to_z w64 (of_z w64 z))) b → Appends n a (0x20 ∷ signed z) b
 signed_same z f p = rw (to_z-of_z f) at p

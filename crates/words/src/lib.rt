@@ -3,4 +3,4 @@
 
 mod store;
 
-pub use store::{put, put_decimal, put_figure, put_signed};
+pub use store::Text;

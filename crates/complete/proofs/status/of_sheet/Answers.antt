@@ -1,26 +1,25 @@
 -- `complete::status::of_sheet` meets its contract. Assumes nothing.
-use mathlib.Core.Path.{◌∙◌, sym, subst}
+use mathlib.Core.Path.{◌≡◌, refl, sym, ◌∙◌, subst}
 use lib.Dec.{T}
-use Rattle.sheet.proofs.CompleteLaws.{unreachable_is, complete_clauses}
+use Rattle.std.specs.Prelude.{Result, Err}
+use Rattle.fields.specs.declared.refusal.Refusal.{Refusal}
+use Rattle.fields.specs.declared.refusal.Refusal.TheVariants.{Unreachable}
+use Rattle.sheet.specs.Complete.{completed_of}
+use Rattle.sheet.specs.declared.complete.Entries.{Entries}
 use Rattle.sheet.proofs.ReachLaws.{reach_slots}
+use Rattle.sheet.proofs.CompleteLaws.{complete_clauses}
 use Rattle.complete.proofs.status.of_sheet.Goals as goal
 
 pub returns-then-not-is_reachable : goal.returns-then-not-is_reachable
-returns-then-not-is_reachable c = let r = c.before in
-    let s = r.args.s in
-    let k = complete_clauses s (c.without.ensures ∙ sym (unreachable_is s (sym r.is_reachable.ensures.value ∙ c.if-not-is_reachable.true))) in
+unfolding completed_of
+returns-then-not-is_reachable c =
+    let thirty : ◌≡◌ {A = Result Entries Refusal} (Err Unreachable) (completed_of c.args.s) = rw (sym c.is_reachable.ensures.value ∙ c.if-not-is_reachable.true) refl in
+    let k = complete_clauses c.args.s thirty in
     record { value = k.0; code = k.1 }
 
-pub height-height-requires : goal.height-height-requires
-height-height-requires c = let r = c.before in
-    (reach_slots r.args.s (subst T (sym (sym r.is_reachable.ensures.value ∙ c.if-not-is_reachable.false)) tt)).few
-
-pub complete_reachable-requires : goal.complete_reachable-requires
-complete_reachable-requires c = let r = c.before in
-    record {
-      reached = subst T (sym (sym r.is_reachable.ensures.value ∙ c.if-not-is_reachable.false)) tt;
-      height_value = c.height-height.ensures;
-    }
+pub shared_ref_as_front-height : goal.shared_ref_as_front-height
+shared_ref_as_front-height c =
+    (reach_slots c.args.s (subst T (sym (sym c.is_reachable.ensures.value ∙ c.if-not-is_reachable.false)) tt)).few
 
 pub returns : goal.returns
 returns c =

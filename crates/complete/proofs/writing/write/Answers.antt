@@ -1,38 +1,29 @@
 -- `complete::writing::write` meets its contract. Assumes nothing.
 use mathlib.Core.Path.{◌∙◌, ap, sym}
-use Rattle.sheet.specs.Writing.{written_entries}
-use Rattle.sheet.proofs.CompleteLaws.{status_is, entries_are, completed_valid}
-use Rattle.sheet.proofs.WriteLaws.{write_unreachable, write_refused, write_complete, reply_is}
+use Prim.Native.Nat.{ℕ}
+use Rattle.std.specs.Prelude.{Result}
+use Rattle.fields.specs.declared.refusal.Refusal.{Refusal}
+use Rattle.sheet.proofs.CompleteLaws.{completed_valid}
+use Rattle.sheet.proofs.WriteLaws.{write_refused, write_complete, reply_is}
 use Rattle.sheet.proofs.RoundTrip.{written_clauses}
+use Rattle.fields.proofs.OrderLaws.{passed_on}
 use Rattle.complete.proofs.writing.write.Goals as goal
 
 pub write_entries-requires : goal.write_entries-requires
-write_entries-requires c = let t = c.before in
-    let o = t.before in
-    completed_valid o.args.s o.of_sheet-completed.ensures.value t.in-Complete.is
+write_entries-requires c = completed_valid c.args.s c.of_sheet.ensures.value c.in_ok-of_sheet.was
 
-pub returns-in-Unreachable : goal.returns-in-Unreachable
-returns-in-Unreachable c = let o = c.before in
-    let a = o.args in
-    let r = written_clauses a.s a.out.now (write_unreachable a.s a.out.now (status_is a.s o.of_sheet-completed.ensures.value c.in-Unreachable.is)) in
-    record { value = r.0; buffer = r.1.0; code = r.1.1.0; reads_back = r.1.1.1 }
-
-pub returns-in-Refused : goal.returns-in-Refused
-returns-in-Refused c = let t = c.before in
-    let o = t.before in
-    let a = o.args in
-    let r = written_clauses a.s a.out.now (write_refused a.s a.out.now (status_is a.s o.of_sheet-completed.ensures.value t.in-Refused.is)) in
-    record { value = r.0; buffer = r.1.0; code = r.1.1.0; reads_back = r.1.1.1 }
-
-pub returns-in-Complete : goal.returns-in-Complete
-returns-in-Complete c = let w = c.before in
-    let t = w.before in
-    let o = t.before in
-    let a = o.args in
-    let e = o.of_sheet-completed.ensures.value in
-    let k = t.in-Complete.is in
+pub returns-in_err-of_sheet : goal.returns-in_err-of_sheet
+returns-in_err-of_sheet c =
+    let a = c.args in
     let r = written_clauses a.s a.out.now
-    (write_complete a.s a.out.now (status_is a.s e k)
-    ∙ ap (λ x. written_entries x a.out.now) (sym (entries_are a.s e k))
-    ∙ reply_is w.write_entries.ensures.value w.write_entries.ensures.buffer) in
+    (write_refused a.s a.out.now c.of_sheet.ensures.value c.in_err-of_sheet.was
+    ∙ ap (λ (y : Result ℕ Refusal). record { answer = y; buffer = a.out.now }) (sym (passed_on _ _ c.from_residual.ensures.1))) in
+    record { value = r.0; buffer = r.1.0; code = r.1.1.0; reads_back = r.1.1.1 }
+
+pub returns : goal.returns
+returns c =
+    let a = c.args in
+    let r = written_clauses a.s a.out.now
+    (write_complete a.s a.out.now c.of_sheet.ensures.value c.in_ok-of_sheet.was
+    ∙ reply_is c.write_entries.ensures.value c.write_entries.ensures.buffer) in
     record { value = r.0; buffer = r.1.0; code = r.1.1.0; reads_back = r.1.1.1 }

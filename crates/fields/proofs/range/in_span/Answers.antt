@@ -1,39 +1,44 @@
--- `fields::range::in_span` meets its contract: the two tables hold the ends of the ranges, by one test over all places.
+-- `fields::range::in_span` meets its contract: the table holds the ends of the ranges, by one test over all places.
 -- Assumes nothing.
-use mathlib.Core.Path.{◌≡◌}
-use mathlib.Core.List.{List, [], ◌∷◌}
+use mathlib.Core.Path.{◌≡◌, refl, sym, subst}
+use mathlib.Core.Bool.{Bool, ◌&&◌}
 use Prim.Native.Nat.{ℕ, ◌<◌}
-use native.Mathlib.Omega.{arith}
-use lib.ListN.{get_or}
-use Rattle.exact.proofs.Table.{holds_rule}
-use Rattle.fields.specs.Range.{range}
-use Rattle.fields.proofs.RangeLaws.{above, below, inside, nowhere}
+use lib.Dec.{T, eqb, eqb→eq, ltb→lt}
+use mir.Facts.{and_yes}
+use borrow.Author.Tests.{le-leb, lt-leb}
+use Rattle.std.specs.Prelude.{slice_index_or}
+use Rattle.exact.proofs.Table.{at_each}
+use Rattle.fields.specs.Range.{range, between}
+use Rattle.fields.specs.declared.range.TheConstants.{RANGES}
+use Rattle.fields.proofs.RangeLaws.{nowhere}
 use Rattle.fields.proofs.range.in_span.Goals as goal
 
-abbrev leasts : List ℕ
-leasts = 1 ∷ 12000 ∷ 1200 ∷ 1 ∷ 100 ∷ 0 ∷ 30000 ∷ 60 ∷ 50 ∷ 100 ∷ 0 ∷ 0 ∷ 6 ∷ 0 ∷ 0 ∷ 1200 ∷ 100 ∷ 0 ∷ 10000 ∷ 50 ∷ []
+-- The ends that the table has at a field's number, whatever stands past it, are those of the field's range.
+module _ (past : ℕ × ℕ) where
+  abbrev ends : ℕ → ℕ × ℕ
+  ends k = slice_index_or RANGES k past
 
-abbrev greatests : List ℕ
-greatests =
-    0 ∷ 240000 ∷ 76800 ∷ 10000000 ∷ 500 ∷ 250 ∷ 50000 ∷ 150 ∷ 150 ∷ 125 ∷ 500 ∷ 1000000000 ∷ 200 ∷ 300000 ∷ 16 ∷ 14400 ∷ 2000 ∷ 250 ∷ 40000 ∷ 100 ∷ []
+  abbrev is_range : ℕ → Bool
+  is_range k = eqb (ends k).0 (range k).least && eqb (ends k).1 (range k).greatest
 
-least_at : (k : ℕ) → k < 20 → get_or leasts k 0 ≡ (range k).least
-least_at = holds_rule leasts (λ k. (range k).least) 20 tt
+  range_at : (k : ℕ) → k < 20 → ((range k).least ≡ (ends k).0) × ((range k).greatest ≡ (ends k).1)
+  range_at k h =
+      let both = and_yes (eqb (ends k).0 (range k).least) (eqb (ends k).1 (range k).greatest) (at_each is_range 20 tt k h) in
+      (sym (eqb→eq _ _ both.0), sym (eqb→eq _ _ both.1))
 
-greatest_at : (k : ℕ) → k < 20 → get_or greatests k 0 ≡ (range k).greatest
-greatest_at = holds_rule greatests (λ k. (range k).greatest) 20 tt
+pub returns-in_default : goal.returns-in_default
+returns-in_default c = nowhere c.args.field c.args.figure c.in_default.ensures.lookup.3
 
-pub returns-then-field-gt19 : goal.returns-then-field-gt19
-returns-then-field-gt19 c = nowhere _ _ c.if-field-gt19.true
+pub returns-then-least-figure : goal.returns-then-least-figure
+unfolding between
+returns-then-least-figure c =
+    let look = c.in-Some.ensures.lookup in
+    let e = range_at c.in-Some.field-0.now c.args.field (ltb→lt c.args.field 20 (subst T look.0 tt)) in
+    rw (e.0, e.1, ← look.1, le-leb _ _ c.if-least-figure.true) refl
 
-pub returns-then-figure-k : goal.returns-then-figure-k
-returns-then-figure-k c = below _ _ (omega (arith, least_at c.args.field (omega arith)))
-
-pub returns-then-k-figure : goal.returns-then-k-figure
-returns-then-k-figure c = above _ _ (omega (arith, greatest_at c.args.field (omega arith)))
-
-pub returns : goal.returns
-returns c =
-    let k = c.args.field in
-    let h : k < 20 = omega arith in
-    inside _ _ (omega (arith, least_at k h)) (omega (arith, greatest_at k h))
+pub returns-else-least-figure : goal.returns-else-least-figure
+unfolding between
+returns-else-least-figure c =
+    let look = c.in-Some.ensures.lookup in
+    let e = range_at c.in-Some.field-0.now c.args.field (ltb→lt c.args.field 20 (subst T look.0 tt)) in
+    rw (e.0, e.1, ← look.1, lt-leb _ _ c.if-least-figure.false) refl

@@ -40,9 +40,8 @@ next k = omega arith
 
 pub returns : goal.returns
 returns c =
-    let d = c.before in
-    let k = d.args.x / d.args.step in
+    let k = c.args.x / c.args.step in
     record {
-      value = rw (c.times-left.ensures.value, c.times-right.ensures.value, at_line _ _ _ d.if-x-s.false d.if-s-x.false, next k);
+      value = rw (c.times-left.ensures.value, c.times-right.ensures.value, at_line _ _ _ c.if-x-s.false c.if-s-x.false, next k);
       upper_bound = omega (arith, c.times-left.ensures.upper_bound, c.times-right.ensures.upper_bound);
     }

@@ -1,12 +1,29 @@
 -- `ground::motion::ground_motion` meets its contract. Assumes nothing.
-use mathlib.Core.Path.{sym, subst}
-use native.Mathlib.Omega.{arith}
-use Rattle.ground.specs.Motion.{ValuesJustified}
-use Rattle.ground.proofs.MotionLaws.{values_justified}
+use mathlib.Core.Path.{ap, ◌∙◌}
+use Rattle.std.specs.Prelude.{Ok}
+use Rattle.fields.proofs.OrderLaws.{passed_on}
+use Rattle.ground.proofs.MotionLaws.{no_class, ss_above, s1_above, given_values, motion_clauses}
 use Rattle.ground.proofs.motion.ground_motion.Goals as goal
 
-pub returns-clause-reply_justified : goal.returns-clause-reply_justified
-returns-clause-reply_justified c =
+pub returns-in_err-class : goal.returns-in_err-class
+returns-in_err-class c =
     let a = c.args in
-    subst (ValuesJustified a.class a.ss a.s1) (sym c.design_values.ensures)
-    (values_justified a.class a.ss a.s1 (omega arith) (omega arith) (omega arith) (omega arith))
+    motion_clauses a.class a.ss a.s1 (passed_on _ _ c.from_residual.ensures.1 ∙ no_class a.class a.ss a.s1 c.try_from.ensures c.in_err-class.was)
+
+pub returns-then-ss-gt-MOST_MAPPED : goal.returns-then-ss-gt-MOST_MAPPED
+returns-then-ss-gt-MOST_MAPPED c =
+    let a = c.args in
+    motion_clauses a.class a.ss a.s1 (ss_above a.class a.ss a.s1 c.try_from.ensures c.in_ok-class.was c.if-ss-gt-MOST_MAPPED.true)
+
+pub returns-then-s1-gt-MOST_MAPPED : goal.returns-then-s1-gt-MOST_MAPPED
+returns-then-s1-gt-MOST_MAPPED c =
+    let a = c.args in
+    motion_clauses a.class a.ss a.s1
+    (s1_above a.class a.ss a.s1 c.try_from.ensures c.in_ok-class.was c.if-ss-gt-MOST_MAPPED.false c.if-s1-gt-MOST_MAPPED.true)
+
+pub returns : goal.returns
+returns c =
+    let a = c.args in
+    motion_clauses a.class a.ss a.s1
+    (ap Ok c.design_values.ensures
+    ∙ given_values a.class a.ss a.s1 c.try_from.ensures c.in_ok-class.was c.if-ss-gt-MOST_MAPPED.false c.if-s1-gt-MOST_MAPPED.false)

@@ -5,17 +5,14 @@ use Rattle.reports.proofs.FigureLaws.{head_in, need_in, required_in}
 use Rattle.judge.proofs.courses.line.Goals as goal
 
 pub need-need-requires : goal.need-need-requires
-need-need-requires c = let s = c in
-    let k = course_in_lem s.args.c s.requires.course_clear in
-    record { h_le_most_height = rw (c.design_head-design.ensures, c.head-h.ensures) (head_in s.args.tank s.requires.tank_clear _ s.args.edge); diameter_in = (tank_in_lem s.args.tank s.requires.tank_clear).diameter; stress_in = k.stress; efficiency_in = k.efficiency }
+need-need-requires c = let k = course_in_lem c.args.c c.requires.course_clear in
+    record { h_le_most_height = rw (c.design_head-design.ensures, c.head-h.ensures) (head_in c.args.tank c.requires.tank_clear _ c.args.edge); diameter_in = (tank_in_lem c.args.tank c.requires.tank_clear).diameter; stress_in = k.stress; efficiency_in = k.efficiency }
 
 pub required-required-requires : goal.required-required-requires
-required-required-requires c = let s = c in
-    record { need_le_most_need = rw (c.need-need.ensures, c.design_head-design.ensures, c.head-h.ensures) (need_in s.args.tank s.requires.tank_clear _ s.args.edge s.args.c s.requires.course_clear); allowance_in = (course_in_lem s.args.c s.requires.course_clear).allowance }
+required-required-requires c = record { need_le_most_need = rw (c.need-need.ensures, c.design_head-design.ensures, c.head-h.ensures) (need_in c.args.tank c.requires.tank_clear _ c.args.edge c.args.c c.requires.course_clear); allowance_in = (course_in_lem c.args.c c.requires.course_clear).allowance }
 
 pub check-verdict-requires : goal.check-verdict-requires
-check-verdict-requires c = let s = c in
-    record { required_le_most_required = rw (c.required-required.ensures, c.need-need.ensures, c.design_head-design.ensures, c.head-h.ensures) (required_in s.args.tank s.requires.tank_clear _ s.args.edge s.args.c s.requires.course_clear); plate_in = (course_in_lem s.args.c s.requires.course_clear).plate }
+check-verdict-requires c = record { required_le_most_required = rw (c.required-required.ensures, c.need-need.ensures, c.design_head-design.ensures, c.head-h.ensures) (required_in c.args.tank c.requires.tank_clear _ c.args.edge c.args.c c.requires.course_clear); plate_in = (course_in_lem c.args.c c.requires.course_clear).plate }
 
 pub returns : goal.returns
 unfolding line_of

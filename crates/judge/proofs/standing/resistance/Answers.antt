@@ -6,20 +6,18 @@ use Rattle.reports.proofs.FigureLaws.{net_most, shell_in, bottom_in}
 use Rattle.judge.proofs.standing.resistance.Goals as goal
 
 pub shell_weight-shell-requires : goal.shell_weight-shell-requires
-shell_weight-shell-requires c = let t = tank_in_lem c.args.tank c.requires.tank_clear in
-    record { weight_in = t.weight; vertical_in = (site_in_lem c.args.site c.requires.site_clear).vertical; diameter_in = t.diameter }
+shell_weight-shell-requires c = let t = tank_in_lem c.args.e.now.tank c.requires.tank in
+    record { weight_in = t.weight; vertical_in = (site_in_lem c.args.e.now.site c.requires.site).vertical; diameter_in = t.diameter }
 
 pub overflow_sub-net : goal.overflow_sub-net
-overflow_sub-net c = let s = c in
-    omega (arith, (tank_in_lem s.args.tank s.requires.tank_clear).net)
+overflow_sub-net c = omega (arith, (tank_in_lem c.args.e.now.tank c.requires.tank).net)
 
 pub bottom_weight-bottom-requires : goal.bottom_weight-bottom-requires
-bottom_weight-bottom-requires c = let s = c in
-    let t = tank_in_lem s.args.tank s.requires.tank_clear in
-    record { plate_le_most_plate = net_most s.args.tank s.requires.tank_clear; yield_stress_le_most_yield = t.fy.1; level_in = t.level }
+bottom_weight-bottom-requires c = let t = tank_in_lem c.args.e.now.tank c.requires.tank in
+    record { plate_le_most_plate = net_most c.args.e.now.tank c.requires.tank; yield_stress_le_most_yield = t.fy.1; level_in = t.level }
 
 pub resistance-requires : goal.resistance-requires
-resistance-requires c = let s = c in record { diameter_in = (tank_in_lem s.args.tank s.requires.tank_clear).diameter; shell_le_most_shell = rw c.shell_weight-shell.ensures (shell_in s.args.tank s.requires.tank_clear s.args.site s.requires.site_clear); bottom_le_most_bottom = rw c.bottom_weight-bottom.ensures (bottom_in s.args.tank s.requires.tank_clear s.args.site s.requires.site_clear) }
+resistance-requires c = record { diameter_in = (tank_in_lem c.args.e.now.tank c.requires.tank).diameter; shell_le_most_shell = rw c.shell_weight-shell.ensures (shell_in c.args.e.now.tank c.requires.tank c.args.e.now.site c.requires.site); bottom_le_most_bottom = rw c.bottom_weight-bottom.ensures (bottom_in c.args.e.now.tank c.requires.tank c.args.e.now.site c.requires.site) }
 
 pub returns : goal.returns
 unfolding resistance_on

@@ -5,16 +5,14 @@ use Rattle.reports.proofs.FigureLaws.{resistance_in, resistance_some}
 use Rattle.judge.proofs.standing.self_checks.Goals as goal
 
 pub self_wind-wind-requires : goal.self_wind-wind-requires
-self_wind-wind-requires c = let t = tank_in_lem c.args.tank c.requires.tank_clear in
+self_wind-wind-requires c = let t = tank_in_lem c.args.e.now.tank c.requires.valid.tank in
     record { moment_le_most_moment = c.requires.moment_le_most_moment; weight_in = t.weight; diameter_in = t.diameter }
 
 pub uplift_of-uplift-requires : goal.uplift_of-uplift-requires
-uplift_of-uplift-requires c = let s = c in
-    rw c.resistance-resistance.ensures (resistance_in s.args.tank s.requires.tank_clear s.args.site s.requires.site_clear)
+uplift_of-uplift-requires c = rw c.resistance-resistance.ensures (resistance_in c.args.e.now.tank c.requires.valid.tank c.args.e.now.site c.requires.valid.site)
 
 pub check-quake-requires : goal.check-quake-requires
-check-quake-requires c = let s = c in
-    rw c.resistance-resistance.ensures (record { resistance_nonzero = resistance_some s.args.tank s.requires.tank_clear s.args.site s.requires.site_clear; resistance_le_most_resistance = resistance_in s.args.tank s.requires.tank_clear s.args.site s.requires.site_clear })
+check-quake-requires c = rw c.resistance-resistance.ensures (record { resistance_nonzero = resistance_some c.args.e.now.tank c.requires.valid.tank c.args.e.now.site c.requires.valid.site; resistance_le_most_resistance = resistance_in c.args.e.now.tank c.requires.valid.tank c.args.e.now.site c.requires.valid.site })
 
 pub returns : goal.returns
 unfolding self_checks

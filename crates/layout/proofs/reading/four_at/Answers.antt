@@ -1,8 +1,7 @@
 -- `layout::reading::four_at` meets its contract. Assumes nothing.
-use native.Mathlib.Omega.{arith}
-use Rattle.layout.proofs.NumberLaws.{four_at}
+use mathlib.Core.Path.{◌∙◌}
+use Rattle.layout.proofs.NumberLaws.{from_bytes}
 use Rattle.layout.proofs.reading.four_at.Goals as goal
 
 pub returns : goal.returns
-returns c = let a = c.args in
-    omega (arith, four_at a.bytes.now a.at)
+returns c = c.from_be_bytes.ensures ∙ from_bytes c.args.bytes.now c.args.at

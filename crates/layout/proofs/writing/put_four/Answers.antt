@@ -1,22 +1,16 @@
 -- `layout::writing::put_four` meets its contract. Assumes nothing.
-use mathlib.Core.Path.{◌≡◌}
-use Prim.Native.Nat.{suc, ◌+◌}
+use mathlib.Core.Path.{◌∙◌, ap}
+use Prim.Native.Nat.{◌+◌, ◌-◌}
 use native.Mathlib.Omega.{arith}
-use lib.ListN.{length-set}
+use lib.Seq.{sets}
+use lib.ListN.{length}
+use Rattle.lists.proofs.SetsLaws.{put_mid_sets}
+use Rattle.layout.proofs.NumberLaws.{to_bytes}
 use Rattle.layout.proofs.writing.put_four.Goals as goal
 
-pub bounds-out-at-2 : goal.bounds-out-at-2
-bounds-out-at-2 c = simp length-set (omega arith)
-
-pub bounds-out-at-3 : goal.bounds-out-at-3
-bounds-out-at-3 c = simp length-set (omega arith)
-
-pub bounds-out-at-4 : goal.bounds-out-at-4
-bounds-out-at-4 c = simp length-set (omega arith)
-
 pub returns : goal.returns
-returns c = let i = c.args.at in
-    let e : i + 1 ≡ suc i = omega arith in
-    let f : i + 2 ≡ suc (suc i) = omega arith in
-    let g : i + 3 ≡ suc (suc (suc i)) = omega arith in
-    rw (e, f, g)
+returns c =
+    let a = c.args in
+    let stored = c.copy_from_slice.ensures.after ∙ c.to_be_bytes.ensures ∙ to_bytes a.x in
+    put_mid_sets a.at (a.at + 4 - a.at) a.out.now c.copy_from_slice.new.self (omega (arith, ap length stored)) (omega arith)
+    ∙ ap (λ l. sets a.out.now a.at l) stored

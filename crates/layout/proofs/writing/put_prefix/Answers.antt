@@ -15,11 +15,7 @@ pub put_fours-requires : goal.put_fours-requires
 put_fours-requires c = simp length-set (omega (arith, ap length c.figures.ensures))
 
 pub shape_of-out : goal.shape_of-out
-shape_of-out c = let q = c.before in
-    let a = q.args in
-    prefix_long a.n a.tank a.out.now q.put_fours.ensures q.figures.ensures
+shape_of-out c = prefix_long c.args.n c.args.tank c.args.out.now c.put_fours.ensures c.figures.ensures
 
 pub returns : goal.returns
-returns c = let q = c.before in
-    let a = q.args in
-    prefix_stored a.n a.tank a.out.now q.put_fours.ensures q.figures.ensures
+returns c = prefix_stored c.args.n c.args.tank c.args.out.now c.put_fours.ensures c.figures.ensures

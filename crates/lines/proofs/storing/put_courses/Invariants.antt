@@ -1,12 +1,9 @@
--- The invariants and the measures of the loops.
-use Prim.Native.Nat.{◌+◌, ◌*◌, ◌-◌, ◌≤◌}
-use lib.ListN.{take, drop}
+-- The lines of the courses up to `i` have been appended.
+use Prim.Native.Nat.{◌*◌}
+use lib.ListN.{take}
 use Rattle.lines.specs.Text.{text, course_lines}
-use Rattle.words.proofs.StoreLaws.{Left}
+use Rattle.words.specs.Stored.{Appends}
 use Rattle.lines.proofs.storing.put_courses.Given as goal
 
 abbrev pub invariant-loop-i : goal.invariant-loop-i
-invariant-loop-i l = (l.i ≤ 12) × (l.i ≤ l.n) × (l.next ≤ l.at + 97 * l.i) × Left l.initial.out l.at (text (course_lines 1 (take l.n l.lines))) l.out l.next (text (course_lines (l.i + 1) (drop l.i (take l.n l.lines))))
-
-abbrev pub decreases-loop-i : goal.decreases-loop-i
-decreases-loop-i l = 12 - l.i
+invariant-loop-i l = Appends (97 * l.i) l.initial.to (text (course_lines 1 (take l.i l.lines))) l.to

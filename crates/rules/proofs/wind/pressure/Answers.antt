@@ -15,10 +15,6 @@ pub overflow_mul-num-4 : goal.overflow_mul-num-4
 overflow_mul-num-4 c =
     let v = c.requires.speed_in.1 in mul_fits (mul-le-mul (mul-le-mul {n₂ = 900} (omega arith) c.requires.importance_in.1) v) v tt
 
-pub returns-then-p-lt1800 : goal.returns-then-p-lt1800
-unfolding pressure_of
-returns-then-p-lt1800 c = omega (arith, c.up-p.ensures)
-
 pub returns : goal.returns
 unfolding pressure_of
-returns c = omega (arith, c.up-p.ensures)
+returns c = omega (arith, c.up.ensures, c.max.ensures)

@@ -7,13 +7,13 @@ use borrow.Author.Tests.{eqb-false}
 use Rattle.fields.specs.Range.{range, within}
 use Rattle.fields.proofs.RangeLaws.{in_of_within}
 use Rattle.rules.specs.Wind.{standard_site, standard_code, site_code_of}
-use Rattle.rules.specs.declared.wind.SitePressure.{SitePressure}
-use Rattle.rules.specs.declared.wind.SitePressure.TheVariants.{Given}
+use Rattle.std.specs.Prelude.{Result, Ok}
+use Rattle.fields.specs.declared.refusal.Refusal.{Refusal}
 use Rattle.rules.proofs.WindLaws.{standard_code_lem}
 use Rattle.rules.proofs.wind.standard_site.Goals as goal
 
 -- what is the answer says what the answer says
-clauses : (v : ℕ) {a : SitePressure} → a ≡ standard_site v → record { value : a ≡ standard_site v; code : site_code_of a ≡ standard_code v }
+clauses : (v : ℕ) {a : Result ℕ Refusal} → a ≡ standard_site v → record { value : a ≡ standard_site v; code : site_code_of a ≡ standard_code v }
 clauses v e = record { value = e; code = ap site_code_of e ∙ standard_code_lem v }
 
 pub returns-then-not-in_range : goal.returns-then-not-in_range
@@ -34,4 +34,4 @@ unfolding standard_site
 returns c =
     let v = c.args.speed in
     let inside : within (range 7) v ≡ true = sym c.in_range.ensures ∙ c.if-not-in_range.false in
-    clauses v (rw inside (ap Given c.pressure.ensures))
+    clauses v (rw inside (ap Ok c.pressure.ensures))

@@ -48,6 +48,7 @@ up_signed-requires c =
 pub returns : goal.returns
 unfolding pull_of pull_exact
 returns c =
+    -- the casts were proved before the call
     let s = c.before in
     rw (to_z-of_z {w = w64} {z = c.up_signed.result} (record { sfits = c.up_signed.type_inv }))
     (rw (to_z-of_z (overflow_sub-up s), to_z-of_z (overflow_cast-up s), to_z-of_z (overflow_cast-down-2 s), to_z-of_z (overflow_cast-den-3 s)) at c.up_signed.ensures)

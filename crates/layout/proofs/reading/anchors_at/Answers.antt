@@ -1,8 +1,0 @@
--- `layout::reading::anchors_at` meets its contract. Assumes nothing.
-use Rattle.layout.proofs.NumberLaws.{four_on}
-use Rattle.layout.proofs.reading.anchors_at.Goals as goal
-
-pub returns : goal.returns
-returns c = let b = c.args.bytes.now in
-    let i = c.args.at in
-    rw (c.four_at-3.ensures, c.four_at-2.ensures, c.four_at.ensures, four_on b i 4, four_on b i 8)
