@@ -2,7 +2,7 @@
 use mathlib.Core.Path.{◌≡◌, ◌∙◌, sym}
 use Prim.Native.Nat.{ℕ, suc, ◌-◌, ◌/◌}
 use native.Mathlib.Omega.{arith}
-use Rattle.ground.proofs.ChartLaws.{inside, at_first, at_last, at_line}
+use Rattle.ground.proofs.ChartLaws.{at_first, at_last, at_line}
 use Rattle.ground.proofs.chart.coefficient.Goals as goal
 
 pub returns-then-x-s : goal.returns-then-x-s
@@ -16,24 +16,6 @@ returns-then-s-x c = record {
   value = c.times-then-s-x.ensures.value ∙ sym (at_last _ _ _ c.if-x-s.false c.if-s-x.true);
   upper_bound = omega (arith, c.times-then-s-x.ensures.upper_bound);
 }
-
-pub overflow_cast-next : goal.overflow_cast-next
-overflow_cast-next c = record { fits = omega (arith, inside _ _ c.if-x-s.false c.if-s-x.false) }
-
-pub overflow_sub-at : goal.overflow_sub-at
-overflow_sub-at c = (inside _ _ c.if-x-s.false c.if-s-x.false).1
-
-pub bounds-figures-at : goal.bounds-figures-at
-bounds-figures-at c = omega (arith, inside _ _ c.if-x-s.false c.if-s-x.false)
-
-pub overflow_sub-s : goal.overflow_sub-s
-overflow_sub-s c = omega (arith, inside _ _ c.if-x-s.false c.if-s-x.false)
-
-pub bounds-figures-next : goal.bounds-figures-next
-bounds-figures-next c = omega (arith, inside _ _ c.if-x-s.false c.if-s-x.false)
-
-pub times-right-requires : goal.times-right-requires
-times-right-requires c = omega (arith, inside _ _ c.if-x-s.false c.if-s-x.false)
 
 next : (k : ℕ) → suc k - 1 ≡ k
 next k = omega arith

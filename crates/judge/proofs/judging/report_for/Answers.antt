@@ -5,9 +5,6 @@ use Rattle.reports.specs.Judging.{report_for}
 use Rattle.reports.proofs.JudgeLaws.{by_entries, by_other_entries}
 use Rattle.judge.proofs.judging.report_for.Goals as goal
 
-pub report_by-requires : goal.report_by-requires
-report_by-requires c = c.requires c.in-Ok.e c.in-Ok.is
-
 pub returns-in_err-try_from-in-Ok : goal.returns-in_err-try_from-in-Ok
 returns-in_err-try_from-in-Ok c =
     passed_on _ _ c.from_residual.ensures.1
@@ -19,6 +16,3 @@ returns-in_ok-try_from-in-Ok c =
     c.report_by.ensures
     ∙ by_entries c.args.method (sym c.try_from.ensures.value ∙ c.in_ok-try_from-in-Ok.was) c.in-Ok.e
     ∙ ap (report_for c.args.method) (sym c.in-Ok.is)
-
-pub returns-in-Err : goal.returns-in-Err
-returns-in-Err c = c.after_thirty.ensures ∙ ap (report_for c.args.method) (sym c.in-Err.is)

@@ -7,9 +7,6 @@ use Rattle.rules.proofs.wind.moment.Goals as goal
 pub overflow_mul-pressure : goal.overflow_mul-pressure
 overflow_mul-pressure c = mul_fits c.requires.pressure_le_most_pressure c.requires.diameter_in.1 tt
 
-pub overflow_mul-pressure-2 : goal.overflow_mul-pressure-2
-overflow_mul-pressure-2 c = mul_fits (mul-le-mul c.requires.pressure_le_most_pressure c.requires.diameter_in.1) c.requires.height_le_most_height tt
-
 pub overflow_mul-pressure-3 : goal.overflow_mul-pressure-3
 overflow_mul-pressure-3 c = mul_fits (mul-le-mul (mul-le-mul c.requires.pressure_le_most_pressure c.requires.diameter_in.1) c.requires.height_le_most_height) c.requires.height_le_most_height tt
 

@@ -5,12 +5,6 @@ use Rattle.exact.proofs.Products.{mul_fits}
 use Rattle.rules.specs.Wind.{pressure_of}
 use Rattle.rules.proofs.wind.pressure.Goals as goal
 
-pub overflow_mul-num-2 : goal.overflow_mul-num-2
-overflow_mul-num-2 c = mul_fits {A = 900} (omega arith) c.requires.importance_in.1 tt
-
-pub overflow_mul-num-3 : goal.overflow_mul-num-3
-overflow_mul-num-3 c = mul_fits (mul-le-mul {n₂ = 900} (omega arith) c.requires.importance_in.1) c.requires.speed_in.1 tt
-
 pub overflow_mul-num-4 : goal.overflow_mul-num-4
 overflow_mul-num-4 c =
     let v = c.requires.speed_in.1 in mul_fits (mul-le-mul (mul-le-mul {n₂ = 900} (omega arith) c.requires.importance_in.1) v) v tt

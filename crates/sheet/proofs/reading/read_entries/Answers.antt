@@ -1,14 +1,13 @@
 -- `sheet::reading::read_entries` meets its contract. Assumes nothing.
 use mathlib.Core.Path.{refl, ◌∙◌, ap, sym}
 use Prim.Native.Nat.{◌-◌}
-use native.Mathlib.Omega.{arith}
 use lib.ListN.{length, take, drop}
 use Rattle.entries.specs.Sheet.{empty_sheet}
 use Rattle.fields.proofs.OrderLaws.{passed_on}
 use Rattle.layout.specs.Layout.{version1}
 use Rattle.layout.specs.Numbers.{two_in}
 use Rattle.layout.specs.Header.{site_in, anchors_in, tail_in, count_of}
-use Rattle.layout.proofs.HeaderLaws.{header_tail, tail_part}
+use Rattle.layout.proofs.HeaderLaws.{tail_part}
 use Rattle.sheet.specs.Steps.{in_turn}
 use Rattle.sheet.specs.Reading.{from_courses, with_height}
 use Rattle.sheet.proofs.ReadLaws.{steps_read, tank_refused, site_refused, anchors_refused, entries_accepted}
@@ -49,12 +48,6 @@ returns-in_err-anchors_flaw c =
     passed_on _ _ c.from_residual-in_err-anchors_flaw.ensures.1
     ∙ ap with_height (sym (anchors_refused t.result x.result a.result (from_courses n tail) ok too (sym c.anchors_flaw.ensures.value ∙ c.in_err-anchors_flaw.was))
     ∙ ap (in_turn empty_sheet) (steps_read b refl t.ensures (x.ensures ∙ ap site_in (tail_part b)) (a.ensures ∙ ap (λ l. anchors_in (drop 20 l)) (tail_part b)) refl))
-
-pub read_courses-requires : goal.read_courses-requires
-read_courses-requires c =
-    let b = c.args.bytes.now in
-    let k = header_tail b c.requires in
-    (omega (arith, c.count_in-n.ensures, ap length (tail_part b), k.all), omega (arith, c.count_in-n.ensures, k.few))
 
 pub returns : goal.returns
 returns c =

@@ -1,28 +1,14 @@
 -- `stability::anchors::pull` meets its contract: the products fit, so each number is read back from its bits. Assumes nothing.
 use Prim.Native.Nat.{◌*◌}
-use native.Mathlib.Nat.{mul-le-mul, mul-le-mul_left, mul-pos}
-use lib.Dec.{lt→ltb}
-use lib.Signed.{lt_z_yes}
+use native.Mathlib.Nat.{mul-le-mul, mul-le-mul_left}
 use native.Mathlib.Omega.{arith}
 use mir.Syntax.{w64}
 use mir.Facts.{to_z-of_z}
-use Rattle.exact.proofs.Products.{mul_fits, mul_sfits}
+use Rattle.exact.proofs.Products.{mul_sfits}
 use Rattle.exact.proofs.SignedLaws.{sub_fits}
 use Rattle.stability.specs.Anchors.{fraction, pull_exact, pull_of}
 use Rattle.stability.proofs.Bounds.{up_most, down_most}
 use Rattle.stability.proofs.anchors.pull.Goals as goal
-
-pub overflow_mul-up-2 : goal.overflow_mul-up-2
-overflow_mul-up-2 c = mul_fits (mul-le-mul_left 4800 c.requires.moment_le_most_moment) c.requires.weight_in.most_parts tt
-
-pub overflow_mul-down : goal.overflow_mul-down
-overflow_mul-down c = mul_fits c.requires.weight_in.most c.requires.circle_in.1 tt
-
-pub overflow_mul-den : goal.overflow_mul-den
-overflow_mul-den c = mul_fits c.requires.count_in.1 c.requires.circle_in.1 tt
-
-pub overflow_mul-den-2 : goal.overflow_mul-den-2
-overflow_mul-den-2 c = mul_fits c.requires.weight_in.most_parts (mul-le-mul c.requires.count_in.1 c.requires.circle_in.1) tt
 
 pub overflow_cast-up : goal.overflow_cast-up
 overflow_cast-up c = mul_sfits (mul-le-mul_left 4800 c.requires.moment_le_most_moment) c.requires.weight_in.most_parts tt
@@ -40,10 +26,6 @@ overflow_sub-up c =
 
 pub overflow_cast-den-3 : goal.overflow_cast-den-3
 overflow_cast-den-3 c = mul_sfits c.requires.weight_in.most_parts (mul-le-mul c.requires.count_in.1 c.requires.circle_in.1) tt
-
-pub up_signed-requires : goal.up_signed-requires
-up_signed-requires c =
-    rw (to_z-of_z (overflow_cast-den-3 c)) (lt_z_yes (lt→ltb 0 _ (mul-pos c.requires.weight_in.parts (mul-pos (omega arith) c.requires.circle_nonzero))))
 
 pub returns : goal.returns
 unfolding pull_of pull_exact

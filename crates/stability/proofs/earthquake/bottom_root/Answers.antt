@@ -1,16 +1,7 @@
 -- `stability::earthquake::bottom_root` meets its contract: the products fit. Assumes nothing.
-use native.Mathlib.Nat.{mul-le-mul}
-use native.Mathlib.Omega.{arith}
-use Rattle.exact.proofs.Products.{mul_fits}
 use Rattle.stability.specs.Earthquake.{bottom_root, root_most}
 use Rattle.stability.proofs.EarthquakeLaws.{root_fits}
 use Rattle.stability.proofs.earthquake.bottom_root.Goals as goal
-
-pub overflow_mul-tb-2 : goal.overflow_mul-tb-2
-overflow_mul-tb-2 c = mul_fits {A = 3120500} (omega arith) c.requires.plate_le_most_plate tt
-
-pub overflow_mul-tb-3 : goal.overflow_mul-tb-3
-overflow_mul-tb-3 c = mul_fits (mul-le-mul {n₂ = 3120500} (omega arith) c.requires.plate_le_most_plate) c.requires.yield_stress_le_most_yield tt
 
 pub overflow_mul-tb-4 : goal.overflow_mul-tb-4
 unfolding root_most
