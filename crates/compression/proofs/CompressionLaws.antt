@@ -41,7 +41,7 @@ use Rattle.entries.specs.declared.sheet.Sheet.{Sheet}
 use Rattle.entries.proofs.FieldLaws.{CourseIn, course_in_lem, tank_in_lem}
 use Rattle.parts.specs.Parts.{courses_clear}
 use Rattle.sheet.specs.Steps.{LeftByRun}
-use Rattle.sheet.specs.Complete.{incomplete, entries_of, completed_of, Valid}
+use Rattle.sheet.specs.Complete.{incomplete, entries_of, entries_in, completed_of, Valid}
 use Rattle.sheet.specs.declared.complete.Entries.{Entries}
 use Rattle.sheet.proofs.AnswerLaws.{never_answered, thirty_first}
 use Rattle.sheet.proofs.CompleteLaws.{entries_are, complete_is, valid}
@@ -214,10 +214,10 @@ module _ (n : ℕ) (s : Sheet) where
     unfolding shell_compression
     refused_first e = sym (rw (compression_first, answer_first n s first judgement e) refl)
 
-    pub accepted_first : j.answer ≡ Ok tt → {d : Entries} → c ≡ Ok d → unless_uplifted j.report.standing d ≡ shell_compression n s
+    pub accepted_first : j.answer ≡ Ok tt → unless_uplifted j.report.standing (entries_in c) ≡ shell_compression n s
     unfolding shell_compression report_of
-    accepted_first e k =
-        rw (compression_first, answer_first n s first judgement e, accepted_report n s first judgement e, entries_are s first k, uplift_is _ _ _ _) refl
+    accepted_first e =
+        rw (compression_first, answer_first n s first judgement e, accepted_report n s first judgement e, entries_are s first (accepted_entries n s first judgement e), uplift_is _ _ _ _) refl
 
   reply_justified : ReplyJustified (entries_of s) (shell_compression n s)
   unfolding shell_compression

@@ -200,7 +200,7 @@ impl Entry<5> for Course {
 }
 
 impl Course {
-    // What a slot that no course has been stated for holds.
+    // What a slot that no course has been stated for holds. Not Default: no course begins with these figures.
     pub fn blank() -> Course
         ensures { result ≡ blank_course }
     {

@@ -1,6 +1,6 @@
 -- What each refusal is by code: document 01, "Refusals that come from the input" and "from the state", and the answers of document 02's
 -- requests. What is promised of a refusal is promised through `code_of`.
-use Rattle.std.specs.Prelude.{ℕ}
+use Rattle.std.specs.Prelude.{ℕ, List, ◌++◌, eqb, cond, codes, decimal}
 use Rattle.fields.specs.declared.refusal.Code.{Code}
 use Rattle.fields.specs.declared.refusal.Refusal.{Refusal}
 use Rattle.fields.specs.declared.refusal.Refusal.TheVariants.{TooFewBytes, TooManyBytes, BadLength, BadVersion, BadCount, OutOfRange, AllowanceNotBelowPlate, BadAnchors, BufferTooShort, Unreachable, TankStated, NoTank, CoursesFull, ShellTooHigh, NoCourse, NoSite, WaterAboveShell, AnchorsUnstated, FigureOutOfRange, BadSiteClass, BadMethod, ShellUplift}
@@ -32,3 +32,7 @@ code_of FigureOutOfRange = plain 40
 code_of BadSiteClass = plain 41
 code_of BadMethod = plain 42
 code_of ShellUplift = plain 43
+
+-- how it is printed: document 01, "The example tank", "`refused`, a blank, the number, and for 16 a blank and the field"
+abbrev pub printed_code : Code → List ℕ
+printed_code p = codes "refused " ++ decimal p.number ++ cond (eqb p.number 16) (codes " " ++ decimal p.field) (codes "")

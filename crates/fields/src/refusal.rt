@@ -1,7 +1,10 @@
 // The refusals (document 01, "Refusals that come from the input" and "from the state"; document 02: 38 of S-1,
 // 40 and 41 of S-2, 42 of S-3, 43 of S-6).
-ghost use Rattle.std.specs.Prelude.{◌≡◌};
-ghost use Rattle.fields.specs.Refusal.{code_of, plain};
+ghost use Rattle.std.specs.Prelude.{◌≡◌, Some};
+ghost use Rattle.fields.specs.Refusal.{code_of, plain, printed_code};
+
+use std::error::Error;
+use std::fmt;
 
 #[derive(Clone, Copy, Debug, PartialEq, Eq)]
 pub enum Refusal {
@@ -76,3 +79,18 @@ impl Refusal {
         }
     }
 }
+
+// Its line, without the line end.
+impl fmt::Display for Refusal {
+    ghost output = { λ r. Some (printed_code (code_of r)) };
+
+    fn fmt<W: fmt::Write>(&self, f: &mut fmt::Formatter<W>) -> fmt::Result {
+        let number = self.code().number;
+        match self {
+            Refusal::OutOfRange(field) => write!(f, "refused {number} {field}"),
+            _ => write!(f, "refused {number}"),
+        }
+    }
+}
+
+impl Error for Refusal {}

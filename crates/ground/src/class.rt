@@ -37,12 +37,6 @@ impl SiteClass {
         ensures value { letter_of self ≡ 65 + result }
         ensures upper_bound { result < 5 }
     {
-        match self {
-            SiteClass::A => 0,
-            SiteClass::B => 1,
-            SiteClass::C => 2,
-            SiteClass::D => 3,
-            SiteClass::E => 4,
-        }
+        self as usize
     }
 }

@@ -31,7 +31,8 @@ fn line(method: Method, tank: Tank, edge: u32, c: Course) -> CourseLine
     }
 }
 
-// The courses' lines, and blank ones up to twelve.
+// The courses' lines, and blank ones up to twelve. By places, since line and course stand at the same one: by `zip` it is no
+// shorter.
 pub(crate) fn lines(method: Method, e: &Entries) -> [CourseLine; 12]
     requires { Valid e.now }
     ensures { result ≡ padded blank_line (lines_of method e.now.tank 0 (courses_of e.now)) }

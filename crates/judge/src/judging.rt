@@ -107,11 +107,9 @@ fn report(method: Method, e: Entries) -> Report
 fn word(lines: &[CourseLine], standing: Standing) -> Word
     ensures { result ≡ word_of lines.now standing }
 {
-    if !courses::all_hold(lines) {
-        return Word::Short;
+    if courses::all_hold(lines) && standing::stands(standing) {
+        Word::Sound
+    } else {
+        Word::Short
     }
-    if standing::stands(standing) {
-        return Word::Sound;
-    }
-    Word::Short
 }

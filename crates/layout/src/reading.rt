@@ -71,7 +71,8 @@ fn is_length(length: usize) -> bool
     1 <= n && n <= MOST_COURSES && length == 58 + 20 * n
 }
 
-// The entry whose figures begin at this place of the layout, four bytes each.
+// The entry whose figures begin at this place of the layout, four bytes each. A buffer and a place, since the layout numbers its
+// places. Not by `array::from_fn`: what its closure holds would have to be carried from call to call (tried).
 pub fn entry_at<const N: usize, E: Entry<N>>(bytes: &[u8], at: usize) -> E
     requires { at + 4 * N ≤ length bytes.now }
     ensures { result ≡ E.entry_of (figures_in N (drop at bytes.now)) }
@@ -83,6 +84,7 @@ pub fn entry_at<const N: usize, E: Entry<N>>(bytes: &[u8], at: usize) -> E
     E::with(figures)
 }
 
+// At a place of the layout too.
 fn four_at(bytes: &[u8], at: usize) -> u32
     requires { at + 4 ≤ length bytes.now }
     ensures { result ≡ four_in (drop at bytes.now) }

@@ -1,3 +1,4 @@
 -- The laws that callers' proofs cite.
+pub mod RefusalLaws
 pub mod TextLaws
 pub mod WordLaws

@@ -1,5 +1,6 @@
 // The lines of a report or a refusal (document 01, "The example tank"), each appended to a text; the bounds are
-// those of numbers of twenty digits. `as` widens, as in hoop.rt of `rules`.
+// those of numbers of twenty digits. Words and digits letter by letter, since by `write!` a text misses the bar of speed
+// (store.rt of `words`). `as` widens, as in hoop.rt of `rules`.
 ghost use Rattle.std.specs.Prelude.{[], ◌∷◌, map, ◌+◌, ◌*◌, ◌≤◌, length};
 ghost use Rattle.fields.specs.Refusal.{code_of};
 ghost use Rattle.stability.specs.Earthquake.{uplift_word};
@@ -128,7 +129,8 @@ fn put_report<'a>(to: Text<'a>, r: Report) -> Text<'a>
     put_tank(standing, r.word)
 }
 
-// The refusal that prints its field: a field outside its range.
+// The refusal that prints its field: a field outside its range. By number, as the text's definition goes: by a match on the
+// refusal the proof would go through all of them (tried).
 const OUT_OF_RANGE: u32 = 16;
 
 // The number, and for 16 the field, each with a blank in front, and the line end.

@@ -10,7 +10,8 @@ ghost use Rattle.marking.specs.Marking.{marked, mark_code};
 use judge::judging;
 use reports::report::Judgement;
 
-// D100: "the printing program and file reports use D100" (document 02, S-3).
+// D100: "the printing program and file reports use D100" (document 02, S-3). By number, since
+// `judge_completed` takes one.
 const METHOD: u32 = 1;
 
 // Reads the sheet that these bytes hold, and judges it by D100. Refused: as reading is, then as judging is.

@@ -16,13 +16,7 @@ pub fn slots_reachable(courses: [Course; 12], n: usize) -> bool
         return false;
     }
     let held = &courses[..n];
-    if !courses_clear(held) {
-        return false;
-    }
-    if MOST_HEIGHT < height(held) {
-        return false;
-    }
-    courses_blank(&courses[n..])
+    courses_clear(held) && height(held) <= MOST_HEIGHT && courses_blank(&courses[n..])
 }
 
 #[tactic(auto, unfolding(crate::specs::Parts::courses_clear))]
@@ -32,6 +26,7 @@ fn courses_clear(courses: &[Course]) -> bool
     courses.iter().all(|&c| is_clear(c))
 }
 
+#[tactic(auto, using(fields::proofs::OrderLaws::clear_of))]
 fn is_clear(c: Course) -> bool
     ensures { result ≡ clear (course_flaws c) }
 {

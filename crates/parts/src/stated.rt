@@ -22,26 +22,23 @@ pub fn parts_reachable(
 }
 
 // Three alike in shape: each asks its own flaw, and one for all would be no shorter.
+#[tactic(auto, using(fields::proofs::OrderLaws::clear_of))]
 fn tank_clear(t: Tank) -> bool
     ensures { result ≡ clear (tank_flaws t) }
 {
     flaws::tank_flaw(t).is_ok()
 }
 
+#[tactic(auto, using(fields::proofs::OrderLaws::clear_of))]
 fn site_clear(site: Option<Site>) -> bool
     ensures { result ≡ site_clear site }
 {
-    match site {
-        None => true,
-        Some(x) => flaws::site_flaw(x).is_ok(),
-    }
+    site.is_none_or(|x| flaws::site_flaw(x).is_ok())
 }
 
+#[tactic(auto, using(fields::proofs::OrderLaws::clear_of))]
 fn anchors_clear(diameter: u32, anchors: Option<Anchors>) -> bool
     ensures { result ≡ anchors_clear diameter anchors }
 {
-    match anchors {
-        None => true,
-        Some(a) => flaws::anchors_flaw(diameter, a).is_ok(),
-    }
+    anchors.is_none_or(|a| flaws::anchors_flaw(diameter, a).is_ok())
 }

@@ -1,11 +1,12 @@
 // What the report on a sheet holds (document 01, "The rules": the numbers, verdicts and lift that its
 // lines print, and the uses).
-ghost use Rattle.std.specs.Prelude.{◌≡◌};
-ghost use Rattle.reports.specs.Report.{blank_line, blank_report};
+ghost use Rattle.std.specs.Prelude.{◌≡◌, Some};
+ghost use Rattle.reports.specs.Report.{tank_word, blank_line, blank_report};
 
 use fields::Refusal;
 use rules::verdict::Verdict;
 use stability::earthquake::Uplift;
+use std::fmt;
 
 // One course: its hoop need without the allowance, the required plate and its plate, in mils. The use of
 // its verdict is required over plate.
@@ -42,7 +43,8 @@ pub enum Standing {
     Anchored(AnchorChecks),
 }
 
-// The two checks of its way of standing: wind and earthquake, or spacing and strength.
+// The two checks of its way of standing: wind and earthquake, or spacing and strength. `Uses` has the same form, for two floats
+// (document 01), and one for both would be a type parameter more.
 #[derive(Clone, Copy, Debug, PartialEq)]
 pub struct Checks {
     pub first: Verdict,
@@ -61,6 +63,17 @@ pub struct Uses {
 pub enum Word {
     Sound,
     Short,
+}
+
+impl fmt::Display for Word {
+    ghost output = { λ w. Some (tank_word w) };
+
+    fn fmt<W: fmt::Write>(&self, f: &mut fmt::Formatter<W>) -> fmt::Result {
+        f.write_str(match self {
+            Word::Sound => "sound",
+            Word::Short => "short",
+        })
+    }
 }
 
 // A line for each course from the bottom up, `count` of them; the lines past them are blank (there is no heap). Pressure in

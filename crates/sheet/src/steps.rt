@@ -31,6 +31,7 @@ pub struct Reply {
     pub sheet: Sheet,
 }
 
+// Beside a refusal the sheet that was handed in (`read` has the empty one there, so the two matches differ).
 pub fn take(s: Sheet, step: Step) -> Reply
     ensures value { result ≡ stated s step }
     ensures code { answer_code result.answer ≡ first_code (unreachable s ∷ order_of s step) }

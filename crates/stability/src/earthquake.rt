@@ -1,11 +1,12 @@
 // Earthquake overturning of a self-anchored tank. `as` widens, as in hoop.rt of `rules`.
-ghost use Rattle.std.specs.Prelude.{◌≡◌, ◌*◌, ◌≤◌, ◌<◌};
+ghost use Rattle.std.specs.Prelude.{◌≡◌, ◌*◌, ◌≤◌, ◌<◌, Some};
 ghost use Rattle.fields.specs.Range.{In};
 ghost use Rattle.stability.specs.Bounds.{most_plate, most_yield, most_shell, most_bottom, most_resistance};
 ghost use Rattle.stability.specs.Earthquake.{shell_weight, bottom_root, bottom_cap, bottom_weight, resistance_of, uplift_of, uplift_word, lift_word_of, quake_verdict};
 ghost use Rattle.rules.specs.Verdict.{VerdictFor};
 
 use rules::verdict::{Verdict, verdict_of};
+use std::fmt;
 
 // What an earthquake does to the edge of the bottom.
 #[derive(Clone, Copy, Debug, PartialEq, Eq)]
@@ -13,6 +14,19 @@ pub enum Uplift {
     None,
     Lift,
     Over,
+}
+
+// The document's word.
+impl fmt::Display for Uplift {
+    ghost output = { λ u. Some (uplift_word u) };
+
+    fn fmt<W: fmt::Write>(&self, f: &mut fmt::Formatter<W>) -> fmt::Result {
+        f.write_str(match self {
+            Uplift::None => "none",
+            Uplift::Lift => "lift",
+            Uplift::Over => "over",
+        })
+    }
 }
 
 // wt: the weight of shell and roof, in hundredths of a pound per foot of shell.

@@ -2,7 +2,8 @@
 // its vectors both functions return x.
 ghost use Rattle.std.specs.Prelude.{◌≤◌, ◌<◌, ◌^◌};
 
-// The ends of the fields' ranges (document 01, "Fields and their ranges").
+// The ends of the fields' ranges (document 01, "Fields and their ranges"): written again, so that this program tests those of
+// `fields`.
 pub(crate) const DIAMETER: (u64, u64) = (12000, 240000);
 
 pub(crate) const LEVEL: (u64, u64) = (1200, 76800);
@@ -49,7 +50,7 @@ pub(crate) const AREA: (u64, u64) = (1, 2500);
 // The coefficient of buckling (document 02, S-6).
 pub(crate) const COEFFICIENT: (u64, u64) = (0, 7153);
 
-// x between the ends of the range.
+// x between the ends of the range: it fits, which `as` asks to be proved and TryFrom would test.
 pub(crate) fn field(x: u64, range: (u64, u64)) -> u32
     requires least_le_most { range.0 ≤ range.1 }
     requires most_bound { range.1 < 2 ^ 32 }

@@ -1,4 +1,5 @@
-// The leaves of `exact`, numbered from 1.
+// The leaves of `exact`, numbered from 1. What is cut down to fit goes by `as`: TryFrom would test it again. A number below 0
+// comes as a sign and a size, as the oracle writes it.
 ghost use Rattle.std.specs.Prelude.{◌<◌};
 
 use crate::clamp::figure;

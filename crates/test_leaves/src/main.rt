@@ -59,7 +59,7 @@ fn number(word: &[u8]) -> u64 {
     word.iter().fold(0, |value, &byte| with_digit(value, byte))
 }
 
-// What is no digit, or would not fit, is passed over: the oracle writes neither.
+// What is no digit, or would not fit, is passed over, where `parse` would give no number: the oracle writes neither.
 fn with_digit(value: u64, byte: u8) -> u64 {
     if !byte.is_ascii_digit() {
         return value;

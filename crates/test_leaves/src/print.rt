@@ -24,11 +24,13 @@ pub(crate) fn float<W: Write>(out: &mut W, x: f64) -> io::Result<()> {
     writeln!(out, "{:016x}", exact::bits(x))
 }
 
+// In the oracle's letters, as test_steps has them in a line.
 pub(crate) fn verdict<W: Write>(out: &mut W, v: Verdict) -> io::Result<()> {
     let word = if v.holds() { "holds" } else { "short" };
     writeln!(out, "{word} {:016x}", exact::bits(v.used()))
 }
 
+// Not by Display: the vectors have a field for each, 0 for none.
 pub(crate) fn refusal<W: Write>(out: &mut W, r: Refusal) -> io::Result<()> {
     let code = r.code();
     writeln!(out, "refused {} {}", code.number, code.field)

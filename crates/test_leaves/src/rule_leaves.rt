@@ -125,12 +125,8 @@ fn resistance(diameter: u64, shell: u64, bottom: u64) -> u64 {
     )
 }
 
-fn uplift(moment: u64, resistance: u64) -> &'static str {
-    match earthquake::uplift_of(field(moment, MOMENT), resistance.min(MOST_RESISTANCE)) {
-        Uplift::None => "none",
-        Uplift::Lift => "lift",
-        Uplift::Over => "over",
-    }
+fn uplift(moment: u64, resistance: u64) -> Uplift {
+    earthquake::uplift_of(field(moment, MOMENT), resistance.min(MOST_RESISTANCE))
 }
 
 fn quake(moment: u64, resistance: u64) -> Verdict {

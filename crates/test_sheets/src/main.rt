@@ -3,7 +3,7 @@
 // the buffer.
 #![tactic(auto)]
 
-ghost use Rattle.std.specs.Prelude.{◌+◌, ◌≤◌, ◌<◌, IfOk, length};
+ghost use Rattle.std.specs.Prelude.{◌≤◌, ◌<◌, IfOk, IfSome, length};
 
 use input::{Ended, read_full, zeros};
 use std::io;
@@ -67,37 +67,30 @@ fn mark_sheets<W: Write>(
 ) -> io::Result<usize>
     ensures { IfOk result (λ at. at ≤ length sheets.now) }
 {
-    let mut at: usize = 0;
+    let mut rest = sheets;
     let mut used: usize = 0;
-    let mut next = end_of(sheets, at, ended);
-    while at < next {
+    while let Some((sheet, after)) = next_sheet(rest, ended) {
         used = with_room(to, out, used)?;
-        used = mark(&sheets[at + 2..next], out, used);
-        at = next;
-        next = end_of(sheets, at, ended);
+        used = mark(sheet, out, used);
+        rest = after;
     }
     to.write_all(&out[..used])?;
-    Ok(at)
+    Ok(sheets.len() - rest.len())
 }
 
-// The place after the sheet that begins at this one; or this one, where that sheet is not to be marked (yet).
-fn end_of(sheets: &[u8], at: usize, ended: bool) -> usize
-    requires { at ≤ length sheets.now }
-    ensures upper_bound { result ≤ length sheets.now }
-    ensures lower_bound { at < result → at + 2 ≤ result }
+// The first sheet and what is after it; none, where it is not to be marked (yet).
+fn next_sheet(sheets: &[u8], ended: bool) -> Option<(&[u8], &[u8])>
+    ensures { IfSome result (λ split. length split.1.now < length sheets.now) }
 {
-    let rest = sheets.len() - at;
-    if rest < 2 {
-        return at;
-    }
-    let size = usize::from(u16::from_be_bytes([sheets[at], sheets[at + 1]]));
-    if size <= rest - 2 {
-        return at + 2 + size;
+    let (size, rest) = sheets.split_first_chunk::<2>()?;
+    let size = usize::from(u16::from_be_bytes(*size));
+    if size <= rest.len() {
+        return Some(rest.split_at(size));
     }
     if ended {
-        return sheets.len();
+        return Some((rest, &[]));
     }
-    at
+    None
 }
 
 // Writes the texts unless one more has room after them, and gives the place for it.
@@ -112,7 +105,8 @@ fn with_room<W: Write>(to: &mut W, out: &[u8], used: usize) -> io::Result<usize>
     Ok(0)
 }
 
-// Stores the text of a sheet at this place, and gives the place after it.
+// Stores the text of a sheet at this place, and gives the place after it. (`marker::mark` fills a slice, and a BufWriter
+// lends none of its own.)
 fn mark(sheet: &[u8], out: &mut [u8], used: usize) -> usize
     requires { used ≤ length out.old }
     ensures { result ≤ length out.old }

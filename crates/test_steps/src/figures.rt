@@ -32,7 +32,7 @@ impl<'a> Figures<'a> {
     }
 
     // A sheet with exactly these figures, whether a run of steps leaves it or not. Each of the entries before the
-    // count is stated where the figure ahead of it is not 0.
+    // count is stated where the figure ahead of it is not 0. (A usize is not From a u32.)
     pub(crate) fn sheet(&mut self) -> Sheet {
         let tank = (self.figure() != 0).then_some(self.entry());
         let site = (self.figure() != 0).then_some(self.entry());

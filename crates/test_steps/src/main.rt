@@ -93,7 +93,8 @@ fn replied<W: Write>(out: &mut W, reply: Reply) -> io::Result<Sheet> {
     Ok(reply.sheet)
 }
 
-// Writes into a buffer of the size that the payload gives, filled with a pattern.
+// Writes into a buffer of the size that the payload gives, filled with a pattern. (A usize is not From a u32, and what was
+// cut down fits.)
 fn written<W: Write>(out: &mut W, held: Sheet, mut figures: Figures) -> io::Result<Sheet> {
     let mut space = [0; MOST_BUFFER as usize];
     let size = figures.figure().min(MOST_BUFFER) as usize;

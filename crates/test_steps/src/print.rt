@@ -15,14 +15,14 @@ pub(crate) fn answer<W: Write>(
 ) -> io::Result<()> {
     match answer {
         Ok(()) => write!(out, "{accepted}"),
-        Err(r) => refusal(out, r),
+        Err(r) => write!(out, "{r}"),
     }
 }
 
 pub(crate) fn written<W: Write>(out: &mut W, answer: Result<usize, Refusal>) -> io::Result<()> {
     match answer {
         Ok(count) => write!(out, "wrote {count}"),
-        Err(r) => refusal(out, r),
+        Err(r) => write!(out, "{r}"),
     }
 }
 
@@ -32,7 +32,7 @@ pub(crate) fn compression<W: Write>(
 ) -> io::Result<()> {
     match answer {
         Ok(v) => stresses(out, v)?,
-        Err(r) => refusal(out, r)?,
+        Err(r) => write!(out, "{r}")?,
     }
     writeln!(out)
 }
@@ -44,15 +44,6 @@ fn stresses<W: Write>(out: &mut W, v: Stresses) -> io::Result<()> {
         "stress {} allowed {} holds {}",
         v.stress, v.allowed, holds
     )
-}
-
-fn refusal<W: Write>(out: &mut W, r: Refusal) -> io::Result<()> {
-    let code = r.code();
-    write!(out, "refused {}", code.number)?;
-    if code.field == 0 {
-        return Ok(());
-    }
-    write!(out, " {}", code.field)
 }
 
 pub(crate) fn buffer<W: Write>(out: &mut W, room: &[u8]) -> io::Result<()> {

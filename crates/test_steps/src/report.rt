@@ -1,12 +1,11 @@
 // A report as the rest of a line of text, in oracle/judged.py's letters; floats by their bits, in hexadecimal.
-use reports::report::{AnchorChecks, CourseLine, Report, SelfChecks, Standing, Word};
+use reports::report::{AnchorChecks, CourseLine, Report, SelfChecks, Standing};
 use rules::verdict::Verdict;
-use stability::earthquake::Uplift;
 use std::io;
 use std::io::Write;
 
 pub(crate) fn report<W: Write>(out: &mut W, r: Report) -> io::Result<()> {
-    write!(out, " {} wind {} {}", word(r.word), r.pressure, r.moment)?;
+    write!(out, " {} wind {} {}", r.word, r.pressure, r.moment)?;
     standing(out, r.standing)?;
     let first = exact::bits(r.uses.first);
     let second = exact::bits(r.uses.second);
@@ -15,13 +14,6 @@ pub(crate) fn report<W: Write>(out: &mut W, r: Report) -> io::Result<()> {
         line(out, l)?;
     }
     writeln!(out)
-}
-
-fn word(w: Word) -> &'static str {
-    match w {
-        Word::Sound => "sound",
-        Word::Short => "short",
-    }
 }
 
 fn standing<W: Write>(out: &mut W, s: Standing) -> io::Result<()> {
@@ -34,7 +26,7 @@ fn standing<W: Write>(out: &mut W, s: Standing) -> io::Result<()> {
 fn self_anchored<W: Write>(out: &mut W, c: SelfChecks) -> io::Result<()> {
     write!(out, " self")?;
     verdict(out, c.wind)?;
-    write!(out, " {} {}", c.resistance, uplift(c.uplift))?;
+    write!(out, " {} {}", c.resistance, c.uplift)?;
     verdict(out, c.quake)
 }
 
@@ -42,14 +34,6 @@ fn anchored<W: Write>(out: &mut W, c: AnchorChecks) -> io::Result<()> {
     write!(out, " anchored {} {}", c.wind_pull, c.quake_pull)?;
     verdict(out, c.spacing)?;
     verdict(out, c.strength)
-}
-
-fn uplift(u: Uplift) -> &'static str {
-    match u {
-        Uplift::None => "none",
-        Uplift::Lift => "lift",
-        Uplift::Over => "over",
-    }
 }
 
 fn line<W: Write>(out: &mut W, l: CourseLine) -> io::Result<()> {

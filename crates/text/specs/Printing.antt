@@ -1,5 +1,5 @@
 -- A text in a buffer: the reply, and the whole content of the buffer after it.
-use Rattle.std.specs.Prelude.{cond, Result, Ok, Err, List, ◌++◌, ◌≡◌, ℕ, ◌≤◌, leb, length, drop}
+use Rattle.std.specs.Prelude.{cond, Result, Ok, Err, List, ◌++◌, ◌≡◌, ℕ, ◌≤◌, leb, length, drop, codes, decimal}
 use Rattle.lines.specs.Text.{most_text}
 use Rattle.text.specs.declared.printing.TooSmall.{TooSmall}
 
@@ -32,3 +32,7 @@ abbrev pub Prints : List ℕ → List ℕ → Result ℕ TooSmall → List ℕ �
 Prints t buf r buf' =
     (r ≡ (printed t buf).answer)
     × ((buf' ≡ (printed t buf).buffer) × ((sizes_of r ≡ printed_sizes t (length buf)) × (length t ≤ most_text)))
+
+-- how a program prints that the buffer is too small
+abbrev pub printed_need : TooSmall → List ℕ
+printed_need small = codes "the text needs " ++ decimal small.needed ++ codes " bytes"

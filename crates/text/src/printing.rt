@@ -1,9 +1,11 @@
 // A judgement as text, in a buffer that the caller lends.
-ghost use Rattle.std.specs.Prelude.{◌≡◌, ◌≤◌, length, take};
+ghost use Rattle.std.specs.Prelude.{◌≡◌, ◌≤◌, length, take, Some};
 ghost use Rattle.lines.specs.Text.{text_of, most_text};
-ghost use Rattle.text.specs.Printing.{Prints, printed, sizes_of, printed_sizes};
+ghost use Rattle.text.specs.Printing.{Prints, printed, sizes_of, printed_sizes, printed_need};
 
 use reports::report::Judgement;
+use std::error::Error;
+use std::fmt;
 
 // A buffer of this length has room for any text.
 pub const MOST_TEXT: usize = 1308;
@@ -14,6 +16,17 @@ pub struct TooSmall {
     // The length of the text.
     pub needed: usize,
 }
+
+impl fmt::Display for TooSmall {
+    ghost output = { λ e. Some (printed_need e) };
+
+    fn fmt<W: fmt::Write>(&self, f: &mut fmt::Formatter<W>) -> fmt::Result {
+        let needed = self.needed;
+        write!(f, "the text needs {needed} bytes")
+    }
+}
+
+impl Error for TooSmall {}
 
 // Fills the first bytes of the buffer with the text, gives its length, and touches no later byte.
 pub fn print(j: Judgement, out: &mut [u8]) -> Result<usize, TooSmall>

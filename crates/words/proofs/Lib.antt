@@ -1,3 +1,4 @@
 -- The laws that callers' proofs cite.
 pub mod DecimalLaws
+pub mod PrintedLaws
 pub mod StoreLaws

@@ -29,5 +29,5 @@ returns c =
     let n = c.args.method in
     let s = c.args.s in
     let q = compression_clauses n s
-    (c.unless_uplifted.ensures ∙ accepted_first n s c.of_sheet-completed.ensures.value c.judge_completed-judgement.ensures.value c.in_ok-judgement.was c.unwrap.ensures) in
+    (c.unless_uplifted.ensures ∙ (rw c.unwrap.ensures at (accepted_first n s c.of_sheet-completed.ensures.value c.judge_completed-judgement.ensures.value c.in_ok-judgement.was))) in
     record { value = q.0; code = q.1.0; reply_justified = q.1.1 }
