@@ -9,7 +9,7 @@ ghost use Rattle.buckling.specs.Allowed.{allowed_of};
 
 use crate::shell::Shell;
 
-// Rounded up. The numerator is within 64 bits, and not within 63.
+// Rounded up. The numerator is within 64 bits, and not within 63. (Weight and vertical acceleration: lib.rt of `stability`.)
 #[tactic(auto, using(crate::proofs::StressLaws::stress_reduced))]
 pub fn compression(weight: u32, vertical: u32, moment: u32, shell: Shell) -> u64
     requires weight_in { In 3 weight }

@@ -215,6 +215,7 @@ impl Course {
 }
 
 impl Sheet {
+    // Not Default either, since its slots are blank.
     pub fn empty() -> Sheet
         ensures { result ≡ empty_sheet }
     {

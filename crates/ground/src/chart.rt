@@ -55,6 +55,7 @@ fn coefficient(figures: [u8; 5], step: u8, x: u32) -> u32
     ensures upper_bound { result ≤ 130050 }
 {
     let s = step as u32;
+    // Up to the first column, and from the last one on, the chart's rule itself.
     if x <= s {
         return times(figures[0], s);
     }

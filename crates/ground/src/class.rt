@@ -32,7 +32,7 @@ impl TryFrom<u8> for SiteClass {
 }
 
 impl SiteClass {
-    // Its row of a chart.
+    // Its row of a chart: its number among the variants, which no From gives.
     pub(crate) fn row(self) -> usize
         ensures value { letter_of self ≡ 65 + result }
         ensures upper_bound { result < 5 }

@@ -45,6 +45,7 @@ pub fn judge_completed(method: u32, c: Result<Entries, Refusal>) -> Judgement
     }
 }
 
+// By number still, since 42 stands between 30 and the other refusals.
 fn report_for(method: u32, c: Result<Entries, Refusal>) -> Result<Report, Refusal>
     requires { ForOk c Valid }
     ensures { result ≡ report_for method c }

@@ -1,4 +1,5 @@
-// The tank's way of standing: self-anchored, or with the anchors given. `as` widens, as in hoop.rt of `rules`.
+// The tank's way of standing: self-anchored, or with the anchors given. `as` widens, as in hoop.rt of `rules`. Entries and the
+// wind's moment: `standing` hands both on to one of two, so no struct is made of them.
 ghost use Rattle.std.specs.Prelude.{◌≡◌, ◌≤◌, ◌<◌};
 ghost use Rattle.rules.specs.Bounds.{most_moment};
 ghost use Rattle.sheet.specs.Complete.{Valid};

@@ -62,6 +62,7 @@ fn count_of(length: usize) -> usize
     length.saturating_sub(58) / 20
 }
 
+// Not by `contains`, as range.rt of `fields` says.
 #[tactic(auto, unfolding(crate::specs::Header::is_length))]
 fn is_length(length: usize) -> bool
     requires { length ≤ 65535 }

@@ -1,5 +1,5 @@
 // A sheet's bytes stored in a buffer, part by part (document 01, "Filling in"). Each part has its place in the layout, a
-// number, so it goes beside the buffer.
+// number, so it goes beside the buffer; a count of courses is at most 12, for its length to be one.
 ghost use Rattle.std.specs.Prelude.{◌≡◌, ◌+◌, ◌*◌, ◌≤◌, length};
 ghost use Rattle.std.proofs.lemmas.List.Edits.{sets};
 ghost use Rattle.layout.specs.Numbers.{four, fours};

@@ -21,7 +21,7 @@ pub fn parts_reachable(
     }
 }
 
-// Three alike in shape: each asks its own flaw, and one for all would be no shorter.
+// Alike in shape, and to `is_clear` of slots.rt: each asks its own flaw, and one for all would be no shorter.
 #[tactic(auto, using(fields::proofs::OrderLaws::clear_of))]
 fn tank_clear(t: Tank) -> bool
     ensures { result ≡ clear (tank_flaws t) }

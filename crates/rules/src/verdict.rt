@@ -3,7 +3,8 @@ ghost use Rattle.std.specs.Prelude.{◌≡◌};
 ghost use Rattle.exact.specs.Sides.{Sides};
 ghost use Rattle.rules.specs.Verdict.{verdict_of, holds, used, VerdictFor};
 
-// Whether the check holds or falls short, with its use.
+// Whether the check holds or falls short, with its use. No Display: the document prints the word alone, the oracle another
+// word and the use.
 #[derive(Clone, Copy, Debug, PartialEq)]
 pub enum Verdict {
     Holds(f64),
@@ -17,6 +18,7 @@ pub fn verdict_of(need: u64, capacity: u64) -> Verdict
     ensures verdict_for { VerdictFor need capacity result }
 {
     let quotient = exact::nearest(need, capacity);
+    // The rule itself.
     if need <= capacity {
         return Verdict::Holds(quotient);
     }

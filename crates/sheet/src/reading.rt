@@ -65,7 +65,7 @@ fn read_entries(bytes: &[u8]) -> Result<Reading, Refusal>
     read_courses(tank, site, anchors, tail, n)
 }
 
-// By places, since slot and bytes are counted alike: by `zip` it is no shorter.
+// By places, since slot and bytes are counted alike: by `zip` it is no shorter. At most twelve, for the slots.
 fn read_courses(
     tank: Tank,
     site: Site,

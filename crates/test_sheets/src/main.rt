@@ -48,7 +48,7 @@ fn mark_all<R: Read, W: Write>(
     Ok(())
 }
 
-// Moves the bytes from this place on to the front, and gives their number.
+// Moves the bytes from this place on to the front, and gives their number. (What is kept begins at a place of the buffer.)
 fn keep(input: &mut [u8], from: usize) -> usize
     requires { from ≤ length input.old }
     ensures { result ≤ length input.old }
@@ -93,7 +93,7 @@ fn next_sheet(sheets: &[u8], ended: bool) -> Option<(&[u8], &[u8])>
     None
 }
 
-// Writes the texts unless one more has room after them, and gives the place for it.
+// Writes the texts unless one more has room after them, and gives the place for it. (A buffer and a place, as in `mark`.)
 fn with_room<W: Write>(to: &mut W, out: &[u8], used: usize) -> io::Result<usize>
     requires { used ≤ length out.now }
     ensures { IfOk result (λ at. at ≤ length out.now) }

@@ -49,6 +49,7 @@ fn is_blank(l: CourseLine) -> bool {
     l == CourseLine::blank() && exact::bits(l.verdict.used()) == 0
 }
 
+// In the oracle's letters, as test_leaves has them in a line of their own.
 fn verdict<W: Write>(out: &mut W, v: Verdict) -> io::Result<()> {
     let word = if v.holds() { "holds" } else { "short" };
     write!(out, " {word} {:016x}", exact::bits(v.used()))

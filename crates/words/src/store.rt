@@ -5,7 +5,8 @@ ghost use Rattle.words.specs.Decimal.{two_digits, decimal, signed};
 ghost use Rattle.words.specs.Stored.{HasRoom, Appends};
 
 // The lent buffer, and the place for the next part. Each part takes the text by value and is inlined, so that the place
-// stays in a register; a text without a buffer, the default, stands in for one that is taken out of a reference.
+// stays in a register; a text without a buffer, the default, stands in for one that is taken out of a reference. How much
+// room is left is asked for at each call, since each part has its own number.
 #[derive(Default, Drop)]
 pub struct Text<'a> {
     out: &'a mut [u8],
@@ -130,6 +131,7 @@ impl<'a> Text<'a> {
         ensures { Appends 22 self.entry (0x20 ∷ signed z) result }
     {
         let size = exact::magnitude(z);
+        // The sign, which the size does not say.
         if z < 0 {
             return self.put(b" -").put_decimal(size);
         }
