@@ -30,8 +30,7 @@ const RANGES: [(u32, u32); 20] = [
 const ANCHORS: u32 = 12;
 
 // Whether a figure is in the range of the field with this number, as the documents have it and 16 gives it. A number
-// that is no field's has an empty range. Two tests and no `||`, by which the proof
-// would go by the side that was true.
+// that is no field's has an empty range. Two tests and no `||`, by which the proof would go by the side that was true.
 pub fn in_range(field: u32, figure: u32) -> bool
     ensures { result ≡ within (range field) figure }
 {
@@ -44,8 +43,8 @@ pub fn in_range(field: u32, figure: u32) -> bool
     in_span(field, figure)
 }
 
-// Whether a figure is between the ends of the field's range, by its number too. (A usize is not From a u32; `contains` would be two calls, whose
-// equations go by `partial_cmp`.)
+// Whether a figure is between the ends of the field's range, by its number too. (A usize is not From a u32; `contains`
+// would be two calls, whose equations go by `partial_cmp`.)
 fn in_span(field: u32, figure: u32) -> bool
     ensures { result ≡ between (range field) figure }
 {

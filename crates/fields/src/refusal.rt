@@ -80,7 +80,8 @@ impl Refusal {
     }
 }
 
-// Its line, without the line end.
+// Its line, without the line end. Left open: what `{}` with options (a width) writes, since only `write!` without is known; and,
+// as for each Display here, whether a write fails.
 impl fmt::Display for Refusal {
     ghost output = { λ r. Some (printed_code (code_of r)) };
 

@@ -1,6 +1,7 @@
 // What the report on a sheet holds (document 01, "The rules": the numbers, verdicts and lift that its
 // lines print, and the uses).
 ghost use Rattle.std.specs.Prelude.{◌≡◌, Some};
+ghost use Rattle.std.specs.Fmt.{styled_text};
 ghost use Rattle.reports.specs.Report.{tank_word, blank_line, blank_report};
 
 use fields::Refusal;
@@ -68,8 +69,10 @@ pub enum Word {
 impl fmt::Display for Word {
     ghost output = { λ w. Some (tank_word w) };
 
+    ghost styled_output = { λ w s. Some (styled_text s (tank_word w)) };
+
     fn fmt<W: fmt::Write>(&self, f: &mut fmt::Formatter<W>) -> fmt::Result {
-        f.write_str(match self {
+        f.pad(match self {
             Word::Sound => "sound",
             Word::Short => "short",
         })

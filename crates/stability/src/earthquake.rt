@@ -1,5 +1,6 @@
 // Earthquake overturning of a self-anchored tank. `as` widens, as in hoop.rt of `rules`.
 ghost use Rattle.std.specs.Prelude.{◌≡◌, ◌*◌, ◌≤◌, ◌<◌, Some};
+ghost use Rattle.std.specs.Fmt.{styled_text};
 ghost use Rattle.fields.specs.Range.{In};
 ghost use Rattle.stability.specs.Bounds.{most_plate, most_yield, most_shell, most_bottom, most_resistance};
 ghost use Rattle.stability.specs.Earthquake.{shell_weight, bottom_root, bottom_cap, bottom_weight, resistance_of, uplift_of, uplift_word, lift_word_of, quake_verdict};
@@ -20,8 +21,10 @@ pub enum Uplift {
 impl fmt::Display for Uplift {
     ghost output = { λ u. Some (uplift_word u) };
 
+    ghost styled_output = { λ u s. Some (styled_text s (uplift_word u)) };
+
     fn fmt<W: fmt::Write>(&self, f: &mut fmt::Formatter<W>) -> fmt::Result {
-        f.write_str(match self {
+        f.pad(match self {
             Uplift::None => "none",
             Uplift::Lift => "lift",
             Uplift::Over => "over",

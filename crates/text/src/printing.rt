@@ -17,6 +17,7 @@ pub struct TooSmall {
     pub needed: usize,
 }
 
+// What is left open is as for `Refusal`.
 impl fmt::Display for TooSmall {
     ghost output = { λ e. Some (printed_need e) };
 
@@ -60,4 +61,30 @@ pub fn text_in(printed: Result<usize, TooSmall>, out: &[u8]) -> &[u8]
 {
     let bytes = printed.unwrap_or(0).min(out.len());
     &out[..bytes]
+}
+
+#[cfg(test)]
+mod tests {
+    use super::*;
+    use fields::Refusal;
+    use reports::report::Word;
+    use stability::earthquake::Uplift;
+
+    const PRINTED: &str = "the text needs 57 bytes|refused 16 7|refused 42|  lift|short |";
+
+    // No clause can say that a Display does not fail.
+    #[test]
+    fn each_display_succeeds(rt: HostRuntime) -> fmt::Result {
+        let small = TooSmall { needed: 57 };
+        let refusal = Refusal::OutOfRange(7);
+        let other = Refusal::BadMethod;
+        let uplift = Uplift::Lift;
+        let word = Word::Short;
+        let text = format!(in rt.alloc(); "{small}|{refusal}|{other}|{uplift:>6}|{word:<6}|")?;
+        if text.as_str() == PRINTED {
+            Ok(())
+        } else {
+            Err(fmt::Error)
+        }
+    }
 }
