@@ -1,5 +1,5 @@
-//! The rules of document 01, with S-5 of document 02, for both programs: ranges, what a step's figures are refused for, and
-//! the figures of a report.
+//! The rules of document 01, with S-5 and S-7 of document 02, for both programs: ranges, what a step's figures are refused for,
+//! and the figures of a report.
 
 /// The ends of each field's range, by the field's number; 0 is no field.
 pub const RANGES: [(u32, u32); 20] = [
@@ -65,7 +65,7 @@ pub fn stress_area(size: u32) -> u64 {
 
 #[inline(always)]
 pub fn need(head: u64, d: u64, s: u64, e: u64) -> u64 {
-    (13 * head * d).div_ceil(72 * s * e)
+    5 * (13 * head * d).div_ceil(5 * 72 * s * e)
 }
 
 #[inline(always)]

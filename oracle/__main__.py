@@ -29,6 +29,7 @@ import records
 import scripts
 import sheet
 import sheets
+import steps
 import text
 import tries
 
@@ -238,7 +239,7 @@ def main(arguments):
     if not __debug__:
         print("the oracle's checks are asserts: run it without -O", file=sys.stderr)
         return 2
-    self_test(document, ground, sheet, judging, compression, text, figures, tries)
+    self_test(document, steps, ground, sheet, judging, compression, text, figures, tries)
     if known is VECTOR_COMMANDS:
         # over all vectors, which takes its time
         self_test(leaves, scripts, judged, held, compressed, sheets)

@@ -237,7 +237,7 @@ def example_cases():
         yield answered(changed(EXAMPLE, Ms=Ms), "allowed 11113")
     yield answered(changed(EXAMPLE, Ms=1_000_000_000), "stress 2946858 allowed 11113 holds no")
     yield answered(changed(SELF, W=18_345), "allowed 13632")
-    yield answered(judged.GROWER, "stress 1288 allowed 1624 holds yes")
+    yield answered(changed(judged.GROWER, c=139), "stress 1288 allowed 1624 holds yes")
 
 
 # --- Groups: the branches of F_L ----------------------------------------------

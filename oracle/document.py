@@ -1,6 +1,6 @@
 """Document 01 ("Flat-bottom steel water tanks: the check sheet") as data and rules.
 
-Written from the document alone, with requests S-1, S-3, S-4 and S-5 of document 02 and the
+Written from the document alone, with requests S-1, S-3, S-4, S-5 and S-7 of document 02 and the
 refusals of S-2 and S-6, whose rules are ground.py's and compression.py's. Every figure is first
 an exact Fraction, then rounded as the document says. Letters (D, H, W, ...) are the document's;
 lengths are hundredths of an inch, plates mils, weights pounds, moments foot-pounds.
@@ -210,9 +210,10 @@ def verdict(need, capacity):
     return Verdict(need <= capacity, use_bits(need, capacity))
 
 
-# --- "The rules": hoop; request S-3 -------------------------------------------
+# --- "The rules": hoop; requests S-3 and S-7 ----------------------------------
 
 FOOT = 1_200
+NEED_STEP = 5       # mils; S-7: "The mill now quotes in steps of 5"
 
 
 def course_head(H, bottom_edge):
@@ -226,12 +227,19 @@ def hoop_head(method, h):
     return max(h - FOOT, 0) if method == API_650 else h
 
 
+def exact_hoop_need(h, D, s, E):
+    """Mils; h as the method has it."""
+    return Fraction(13 * h * D, 72 * s * E)
+
+
 def hoop_need(h, D, s, E):
-    """Mils, without the allowance c; h as the method has it."""
-    return ceil(Fraction(13 * h * D, 72 * s * E))
+    """Without the allowance c. S-7: "rounded up to a multiple of 5 before the allowance is added,
+    for D100 and API 650"."""
+    return NEED_STEP * ceil(exact_hoop_need(h, D, s, E) / NEED_STEP)
 
 
 def house_floor(D):
+    """S-7: "floors don't move", though two of them are no multiples of 5."""
     if D <= 60_000:
         return 188
     if D <= 144_000:
@@ -240,7 +248,7 @@ def house_floor(D):
 
 
 def required_plate(need, c, D):
-    """The allowance goes on the hoop need, never on the floor."""
+    """The allowance goes on the hoop need, never on the floor; nothing is rounded after it."""
     return max(need + c, house_floor(D))
 
 
@@ -358,11 +366,12 @@ def self_test():
     width, t, c, s, E = course = (9_600, 250, 0, 15_000, 85)
     Hs = 3 * width
 
-    # course lines
+    # course lines; S-7: "The example's 59, 40, 20 become 60, 40, 20"
     heads = [course_head(H, number * width) for number in range(3)]
     needs = [hoop_need(h, D, s, E) for h in heads]
     assert heads == [28_800, 19_200, 9_600]
-    assert needs == [59, 40, 20]
+    assert [ceil(exact_hoop_need(h, D, s, E)) for h in heads] == [59, 40, 20]
+    assert needs == [60, 40, 20]
     for need in needs:
         required = required_plate(need, c, D)
         assert required == 188
@@ -420,15 +429,33 @@ def self_test():
         assert judge_refusal(D100, True, 3, True, False, H, Hs) == (38, 0)
         assert judge_refusal(D100, True, 3, False, False, H, Hs) == (36, 0)
 
-    # S-3: "The tank in source document 002 ... needs 49, 32 and 15 mils"; by D100 50.94, 33.96
-    # and 16.98 are rounded up
-    for method, expected in ((API_650, [49, 32, 15]), (D100, [51, 34, 17])):
-        assert [hoop_need(hoop_head(method, h), D, 21_000, 70) for h in heads] == expected
+    # S-3: "The tank in source document 002 ... needs 49, 32 and 15 mils", by D100 51, 34 and 17;
+    # S-7: "the consultant's 49, 32, 15 become 50, 35, 15"
+    for method, in_mils, in_steps in ((API_650, [49, 32, 15], [50, 35, 15]),
+                                      (D100, [51, 34, 17], [55, 35, 20])):
+        points = [(hoop_head(method, h), D, 21_000, 70) for h in heads]
+        assert [ceil(exact_hoop_need(*point)) for point in points] == in_mils
+        assert [hoop_need(*point) for point in points] == in_steps
     assert [hoop_head(API_650, h) for h in (0, 1_199, 1_200, 1_201, 28_800)] == [0, 0, 0, 1, 27_600]
     for method, refusal in ((0, (42, 0)), (1, None), (2, None), (3, (42, 0))):
         assert judge_refusal(method, True, 3, True, True, 28_800, Hs) == refusal
     assert judge_refusal(3, False, 0, False, False, 0, 0) == (42, 0)
     assert judge_refusal(2, False, 0, False, False, 0, 0) == (32, 0)
+
+    # S-7: a need of 0 stays, and so do exact ones of 5 and 65; what is past them is a step more
+    for point, need in (((0, 12_000, 10_000, 50), 0), ((1, 12_000, 40_000, 100), 5),
+                        ((1_500, 12_000, 10_000, 65), 5), ((1_501, 12_000, 10_000, 65), 10),
+                        ((749, 240_000, 10_000, 50), 65), ((750, 240_000, 10_000, 50), 65),
+                        ((751, 240_000, 10_000, 50), 70), ((75_600, 240_000, 10_000, 50), 6_555),
+                        ((76_800, 240_000, 10_000, 50), 6_660)):
+        assert hoop_need(*point) == need, (point, need)
+    # the required plate is no multiple of 5 unless the allowance or the floor makes it one
+    for need, c, D, required in ((60, 128, 14_400, 188), (60, 129, 14_400, 189),
+                                 (0, 250, 60_000, 250), (0, 189, 60_000, 189),
+                                 (185, 3, 60_000, 188), (185, 4, 60_000, 189),
+                                 (245, 5, 60_001, 250), (250, 1, 144_000, 251),
+                                 (310, 3, 144_001, 313), (310, 4, 144_001, 314)):
+        assert required_plate(need, c, D) == required
 
     # data
     assert list(FIELD_RANGES) == list(range(1, 20))

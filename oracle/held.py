@@ -379,8 +379,8 @@ GROWER_STANDS = {   # by the letter of its anchors
     "0": "wind 2123 73371 self holds .. 122400 none holds .. uses .. .. courses 3",
 }
 GROWER_WORDS = {    # and by the method, before that and after it
-    D100: ("accepted short", "| 51 190 188 short .. | 34 188 188 holds .. | 17 188 188 holds"),
-    API_650: ("accepted sound", "| 49 188 188 holds .. | 32 188 188 holds .. | 15 188 188 holds"),
+    D100: ("accepted short", "| 55 193 188 short .. | 35 188 188 holds .. | 20 188 188 holds"),
+    API_650: ("accepted sound", "| 50 188 188 holds .. | 35 188 188 holds .. | 15 188 188 holds"),
 }
 
 

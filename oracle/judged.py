@@ -10,15 +10,17 @@ group.
 from collections import Counter
 from fractions import Fraction
 from functools import cache
-from itertools import product
+from itertools import cycle, product
 from math import ceil, floor, gcd, trunc
 from random import Random
+from typing import NamedTuple
 
 import document as doc
 import judging
 import near
 import scripts
 import sheet as model
+import steps
 from document import API_650, D100
 from judging import FULL_HEADS, FULL_HEADS_A_FOOT_UP
 from leaves import NO_METHODS, beside, hexadecimal, verdict_text
@@ -169,8 +171,9 @@ LIGHT = changed(EXAMPLE, W=100, V=137, d=6)     # the wind pull is 6,735; the bo
 # Source document 002's, so far as S-3 tells of it; its plate is the example's, 0.25 in.
 SOURCE_TANK = changed(EXAMPLE, s=21_000, E=70)
 
-# That tank with other W, t and c: sound by API 650; by D100 its first course wants two mils.
-GROWER = changed(SOURCE_TANK, W=18_345, t=188, c=139)
+# That tank with other W, t and c: sound by API 650, its first course having just the floor's 188;
+# by D100, which is a step more, that course wants five mils.
+GROWER = changed(SOURCE_TANK, W=18_345, t=188, c=138)
 
 # --- Groups: document 01's example and cases ----------------------------------
 
@@ -187,8 +190,8 @@ def example_cases():
     yield short(changed(standing, Ms=145_755), "wind", "earthquake", shows="94646 over short")
     yield short(changed(standing, W=18_342), "wind")
     yield sound(changed(standing, W=18_343))
-    yield short(changed(standing, D=60_000), "wind", shows="| 164 188 250 holds")
-    yield short(changed(standing, D=60_001), "wind", shows="| 164 250 250 holds")
+    yield short(changed(standing, D=60_000), "wind", shows="| 165 188 250 holds")
+    yield short(changed(standing, D=60_001), "wind", shows="| 165 250 250 holds")
     yield refused("refused 37", *handed_in(changed(EXAMPLE, H=28_801)))
     thirteen = model.as_bytes(*EXAMPLE[:3], [EXAMPLE.courses[0]] * 13)
     yield refused("refused 13", mark(thirteen))
@@ -197,16 +200,16 @@ def example_cases():
 
 def readings_astray():
     """Sheets on which each of the four wrong readings would show, in the word too."""
-    # the need of course 1 is 260: h to mid-course makes it 228, one foot higher 250
-    assert doc.hoop_need(30_600 - 7_650 // 2, 60_000, 15_000, 85) == 228
+    # the need of course 1 is 260: h to mid-course makes it 230, one foot higher 250
+    assert doc.hoop_need(30_600 - 7_650 // 2, 60_000, 15_000, 85) == 230
     assert doc.hoop_need(30_600 - 1_200, 60_000, 15_000, 85) == 250
-    for t, holds in ((228, False), (250, False), (259, False), (260, True)):
+    for t, holds in ((230, False), (250, False), (259, False), (260, True)):
         yield sound_if(holds, course_changed(FULL_HEADS, 1, t=t), "course 1",
                        shows=f"| 260 260 {t}")
     # the floor with the allowance would be 238
-    yield sound(changed(EXAMPLE, t=188, c=50), "| 59 188 188 holds")
-    yield sound(changed(EXAMPLE, t=188, c=129), "| 59 188 188 holds")
-    yield short(changed(EXAMPLE, t=188, c=130), "course 1", shows="| 59 189 188 short")
+    yield sound(changed(EXAMPLE, t=188, c=50), "| 60 188 188 holds")
+    yield sound(changed(EXAMPLE, t=188, c=128), "| 60 188 188 holds")
+    yield short(changed(EXAMPLE, t=188, c=129), "course 1", shows="| 60 189 188 short")
     # T with wL uncapped would be 333,669
     assert doc.resistance(14_400, doc.shell_weight_on_rim(18_345, 27, 14_400), 183_579) == 333_669
     yield sound(SELF, "122400 none")
@@ -385,7 +388,7 @@ def reading_before_judging():
 
 
 def heads_at_equality(heads, method):
-    """Of four courses whose needs, 260, 195, 130 and 65, are whole by this method, and with c
+    """Of four courses whose exact needs, 260, 195, 130 and 65, are steps by this method, and with c
     t."""
     yield sound(heads, "| 260 260 260 holds 3ff0000000000000", method)
     for number in range(1, 5):
@@ -404,17 +407,17 @@ def heads_at_equality(heads, method):
     every = [f"course {number}" for number in range(1, 5)]
     _D, level, *_rest = heads.tank
     higher = course_changed(heads, 4, width=9_600)
-    for H in beside(level):     # 259.99.. is rounded up
+    for H in beside(level):     # 259.99.. is rounded up to 260, 260.00.. to 265
         yield sound_if(H <= level, changed(higher, H=H, W=30_000), *every, method=method)
     for D in beside(60_000):
         yield sound_if(D <= 60_000, changed(heads, D=D), *every, method=method)
 
 
 def course_at_equality():
-    """Required is t: by the need with c, whole and rounded up, and by the floor."""
+    """Required is t: by the need with c, exact and rounded up, and by the floor."""
     yield from heads_at_equality(FULL_HEADS, D100)
-    for c in beside(129):       # the need of 59 with c, beside the floor
-        yield sound_if(c <= 129, changed(EXAMPLE, t=188, c=c), "course 1")
+    for c in beside(128):       # the need of 60 with c, beside the floor
+        yield sound_if(c <= 128, changed(EXAMPLE, t=188, c=c), "course 1")
 
 
 def self_wind_at_equality():
@@ -578,20 +581,21 @@ def water_levels():
         for number in (1, 2):
             edge = 9_600 * number
             for H in beside(edge):
-                above = max(H - edge, 0)        # 0 or 1, which makes a need of as much
-                yield sound(changed(sheet, H=H), f"| {above} 188 250")
+                need = 5 if H > edge else 0     # of the course above: 1 of h makes a step
+                yield needing({number + 1: need}, sound(changed(sheet, H=H), f"| {need} 188 250"))
         for H in (28_799, 28_800):
             yield sound(changed(sheet, H=H))
         for H in (28_801, 76_800):
             yield refused("refused 37", *handed_in(changed(sheet, H=H)))
-        yield sound(changed(sheet, H=1_200), "| 3 188 250")
+        yield sound(changed(sheet, H=1_200), "| 5 188 250")
     far_below = changed(with_widths(SELF, [6_400] * 12), H=6_401, W=200_000)
-    yield sound(far_below, "| 1 188 250")
+    yield sound(far_below, "| 5 188 250")
     yield sound(changed(far_below, H=6_400), "| 0 188 250")
-    # with no need, c alone is below the floor, at it and above it
-    yield sound(changed(far_below, H=1_200, c=187, t=190), "| 0 188 190")
-    yield sound(changed(far_below, H=1_200, c=188, t=191), "| 0 188 191")
-    yield sound(changed(far_below, H=1_200, c=189, t=192), "| 0 189 192")
+    # with no need, c alone is below the floor, at it and above it; course 1, which has one, has
+    # just what it requires
+    yield sound(changed(far_below, H=1_200, c=187, t=192), "| 0 188 192")
+    yield sound(changed(far_below, H=1_200, c=188, t=193), "| 0 188 193")
+    yield sound(changed(far_below, H=1_200, c=189, t=194), "| 0 189 194")
     for H in (76_799, 76_800):
         yield sound(changed(far_below, H=H))
 
@@ -744,9 +748,9 @@ def margins():
 
 def source_document_002():
     """12 ft across, 24 ft of water, 21,000 psi, 0.70, 8 ft steps: by API 650 it "needs 49, 32
-    and 15 mils", by D100 50.94, 33.96 and 16.98 rounded up. The document's own third course is a
-    quarter of an inch lower, its water is not."""
-    by_d100, by_api_650 = {1: 51, 2: 34, 3: 17}, {1: 49, 2: 32, 3: 15}
+    and 15 mils", which S-7 makes "50, 35, 15", by D100 50.94, 33.96 and 16.98 rounded up. The
+    document's own third course is a quarter of an inch lower, its water is not."""
+    by_d100, by_api_650 = {1: 55, 2: 35, 3: 20}, {1: 50, 2: 35, 3: 15}
     lower = course_changed(SOURCE_TANK, 3, width=9_575)
     for sheet in (SOURCE_TANK, self_anchored(changed(SOURCE_TANK, W=18_345)),
                   changed(lower, H=28_775)):
@@ -755,20 +759,25 @@ def source_document_002():
     for method in doc.METHODS:
         yield refused("refused 37", *handed_in(lower, method))
     for sheet in (GROWER, self_anchored(GROWER)):
-        yield needing(by_d100, short(sheet, "course 1", shows="| 51 190 188 short"))
-        yield needing(by_api_650, sound(sheet, "| 49 188 188 holds", API_650))
+        yield needing(by_d100, short(sheet, "course 1", shows="| 55 193 188 short"))
+        yield needing(by_api_650, sound(sheet, "| 50 188 188 holds", API_650))
 
 
-FIRST_FOOT = (      # water over the bottom edge; 13 mils for 150 of it by D100, and by API 650
-    (0, 0, 0), (1, 1, 0), (1_199, 104, 0), (1_200, 104, 0), (1_201, 105, 1), (1_202, 105, 1),
-    (1_349, 117, 13), (1_350, 117, 13), (1_351, 118, 14), (2_399, 208, 104), (2_400, 208, 104),
-    (2_401, 209, 105),
+FIRST_FOOT = (      # water over the bottom edge, 65 mils for 750 of it; by D100, by API 650
+    (0, 0, 0), (1, 5, 0), (1_199, 105, 0), (1_200, 105, 0), (1_201, 105, 5), (1_202, 105, 5),
+    (1_949, 170, 65), (1_950, 170, 65), (1_951, 170, 70), (2_249, 195, 95), (2_250, 195, 95),
+    (2_251, 200, 95),
 )
 
 
 def first_foot():
     """The water ends above the bottom edge of the first, a middle or the last course. A foot of
-    1,199 or 1,201, or a foot more, would show in its need. H is never less than a foot."""
+    1,199 or 1,201, or a foot more, would show in its need, at the first step and at a later one. H
+    is never less than a foot."""
+    for foot, over in ((1_199, 1_200), (1_199, 1_950), (1_201, 1_201), (1_201, 1_951), (0, 1),
+                       (0, 1_201), (0, 1_951), (2_400, 2_249)):
+        _over, _by_d100, need = next(row for row in FIRST_FOOT if row[0] == over)
+        assert doc.hoop_need(over - foot, 240_000, 10_000, 50) != need
     base = changed(with_widths(SELF, [4_800] * 5), D=240_000, W=1_000_000, s=10_000, E=50, t=2_000)
     for number, edge in ((1, 0), (3, 9_600), (5, 19_200)):
         for over, by_d100, by_api_650 in FIRST_FOOT:
@@ -779,13 +788,13 @@ def first_foot():
             yield needing({number: by_d100}, sound(sheet))
             yield needing({number: by_api_650}, sound(sheet, method=API_650))
     most = with_widths(changed(base, H=76_800), [12_800] * 6)
-    for method, need in ((D100, 6_656), (API_650, 6_552)):
+    for method, need in ((D100, 6_660), (API_650, 6_555)):     # exactly 6,656 and 6,552
         yield needing({1: need}, handed_in(most, method))
 
 
 def course_at_equality_by_api_650():
     yield from heads_at_equality(FULL_HEADS_A_FOOT_UP, API_650)
-    for number, need in ((1, 49), (2, 32), (3, 15)):    # with c, beside the floor
+    for number, need in ((1, 50), (2, 35), (3, 15)):    # with c, beside the floor
         for c in beside(188 - need):
             sheet = course_changed(changed(SOURCE_TANK, t=188), number, c=c)
             yield sound_if(need + c <= 188, sheet, f"course {number}", method=API_650)
@@ -804,7 +813,7 @@ def sound_by_api_650_alone():
         for number in sorted({1, (n + 1) // 2, n}):
             least, most = (report_on(sheet, method).courses[number - 1].required
                            for method in (API_650, D100))
-            assert 188 < least < most - 9
+            assert 188 < least < most - 9       # two steps or three
             for t in (least - 1, least, most - 1, most):
                 one = course_changed(sheet, number, t=t)
                 yield sound_if(t >= most, one, f"course {number}")
@@ -828,7 +837,7 @@ def several_short_by_api_650():
                          (changed(self_anchored(GROWER), Ms=200_000), "earthquake")):
         yield short(base, "course 1", *rules)
         yield reported(base, rules, "", API_650)
-        corroded = course_changed(base, 1, c=140)
+        corroded = course_changed(base, 1, c=139)
         yield short(corroded, "course 1", *rules, method=API_650)
 
 
@@ -1035,6 +1044,136 @@ def weights_that_count():
         yield sound(changed(sheet, Av=0))
 
 
+# --- Groups: the steps of request S-7 -----------------------------------------
+
+# Both stand as they are, whatever D is.
+UPRIGHT = changed(self_anchored(EXAMPLE), W=150_000, V=60, Ms=0)
+TIED_DOWN = changed(EXAMPLE, W=150_000, V=60, Ms=0, N=79, B=300_000)
+
+
+def on_point(base, point, method, number):
+    """The sheet on which the course of this number has the h of a point, as the method has it, and
+    its s and E. Those below have the least width; the others' s, E and t are the greatest. None if
+    H is outside its range."""
+    h, D, s, E = point
+    edge = 1_200 * (number - 1)
+    H = edge + near.NEED_STARTS[method] + h
+    if not doc.field_in_range(2, H):
+        return None
+    widths = [1_200] * (number - 1) + widths_to(76_800 - edge, 6)
+    sheet = changed(with_widths(base, widths), D=D, H=H, s=40_000, E=100, t=2_000)
+    return course_changed(sheet, number, s=s, E=E)
+
+
+def on_first_of(numbers, base, point, method):
+    """The first of these numbers with which there is such a sheet, and this."""
+    sheets = ((number, on_point(base, point, method, number)) for number in numbers)
+    return next((number, sheet) for number, sheet in sheets if sheet is not None)
+
+
+def plates_about(required, c):
+    """What is required and a mil less, as far as they are above c; else the least plate that is."""
+    return [t for t in (required, required - 1) if t > c] or [c + 1]
+
+
+def at_required_and_less(sheet, number, need, c, method):
+    """This course has each of these plates. With every other c the order is turned, so that a case
+    in turn is not of one verdict alone."""
+    required = max(need + c, doc.house_floor(sheet.tank[0]))
+    for t in plates_about(required, c)[::1 if c % 2 else -1]:
+        one = course_changed(sheet, number, t=t, c=c)
+        use = verdict_text(doc.Verdict(t >= required, doc.use_bits(required, t)))
+        yield needing({number: need}, sound_if(t >= required, one, f"course {number}",
+                                               shows=f"| {need} {required} {t} {use}",
+                                               method=method))
+
+
+def needs_about_steps():
+    """The need and a point of which it is the need."""
+    yield 5, steps.LEAST_NEEDED
+    for step in steps.STEPS:
+        if step <= steps.MOST_PLATED:
+            yield from steps.beside_step(step)
+    yield from (*steps.whole_mils(), *steps.half_steps())
+
+
+def needs_beside_steps():
+    """In the first, the second or the seventh course. If c can bring it there, the required plate
+    is past the floor by one to four mils."""
+    for method in doc.METHODS:
+        bases = cycle((UPRIGHT, UPRIGHT, TIED_DOWN, TIED_DOWN))
+        numbers = cycle(((1, 2), (2, 1), (7, 1)))
+        pasts = cycle((1, 2, 3, 4))
+        for (need, point), base, places, past in zip(needs_about_steps(), bases, numbers, pasts):
+            number, sheet = on_first_of(places, base, point, method)
+            c = min(max(doc.house_floor(point[1]) - need, 0) + past, 250)
+            yield from at_required_and_less(sheet, number, need, c, method)
+
+
+FLOORS_NEARED = {       # D to needs in steps; with 250 more none is below the floor
+    60_000: (5, 60, 120, 185), 144_000: (5, 100, 245, 250), 240_000: (65, 100, 310, 315),
+}
+
+
+def allowances_beside_floors():
+    """The need with c is two mils short of the floor, one, at it, and past it by one to five. The
+    exact need is short of the need by whole mils, none to four."""
+    for method in doc.METHODS:
+        offs = cycle(range(5))
+        for D, needs in FLOORS_NEARED.items():
+            for need, past in product(needs, range(-2, 6)):
+                c = doc.house_floor(D) + past - need
+                point = steps.of_mils(need - next(offs), D)
+                if 0 <= c <= 250:
+                    number, sheet = on_first_of((1, 2), UPRIGHT, point, method)
+                    yield from at_required_and_less(sheet, number, need, c, method)
+
+
+def no_need_no_step():
+    """The water ends at the bottom edge of course 2 or, by API 650, up to a foot above it: the need
+    is 0, and c alone is short of the floor, at it or past it. With a step it would be past floors
+    of 188 and 250 from a c of 184 and 246 on."""
+    for method, over in ((D100, 0), (API_650, 0), (API_650, 1), (API_650, 1_200)):
+        for D, allowances in ((60_000, (0, 183, 184, 187, 188, 189, 250)),
+                              (144_000, (0, 246, 249, 250)), (240_000, (0, 250))):
+            sheet = changed(with_widths(UPRIGHT, [1_200, 1_200, 9_600]), D=D, H=1_200 + over,
+                            t=2_000)
+            for c in allowances:
+                yield from at_required_and_less(sheet, 2, 0, c, method)
+
+
+def largest_needs():
+    """Of plates that are required, 2,000 is the largest that a course can have. Then the largest
+    needs and required plates of all, 6,660 and 6,910, by API 650 6,555 and 6,805."""
+    for method in doc.METHODS:
+        for step, c in ((1_750, 250), (1_745, 249), (2_000, 0)):
+            for (need, point), t in product(steps.beside_step(step), (1_999, 2_000)):
+                sheet = course_changed(on_point(UPRIGHT, point, method, 1), 1, t=t, c=c)
+                yield needing({1: need}, sound_if(t >= need + c, sheet, "course 1",
+                                                  shows=f"| {need} {need + c} {t}",
+                                                  method=method))
+        by_d100 = steps.LARGEST_BY_D100 if method == D100 else ()
+        for (need, point), c in product((*steps.LARGEST_BY_BOTH, *by_d100), (0, 248, 250)):
+            sheet = course_changed(on_point(TIED_DOWN, point, method, 1), 1, c=c)
+            yield needing({1: need}, short(sheet, "course 1", shows=f"| {need} {need + c} 2000",
+                                           method=method))
+
+
+def short_by_a_step():
+    """Demand 3 bears out the word with five mils of margin. With half of it, the exact need being
+    little past a step, it would not where t is one or two mils short (see judging.py)."""
+    for (method, short_sheet, past), anchors in product(
+            judging.PAST_STEPS, (model.SELF_ANCHORED, TIED_DOWN.anchors)):
+        sheet = short_sheet._replace(anchors=anchors)
+        _width, t, c, _s, _E = sheet.courses[0]
+        need = t + 1 - c
+        for less in (6, 5, 4, 3, 2, 1, 0):
+            one = course_changed(sheet, 1, t=need + c - less)
+            halved = judging.with_plate_margin(one, Fraction(5, 2))
+            assert judging.meets(one, method, halved) == (less + past <= Fraction(5, 2))
+            yield sound_if(less == 0, one, "course 1", shows=f"| {need} {need + c}", method=method)
+
+
 # --- Groups: at random, from fixed seeds --------------------------------------
 
 
@@ -1118,11 +1257,15 @@ IN_TURN = (
     field_ends, water_on_rim,
     earthquake_pulls, earthquake_pulls_nearest, larger_pull_changes,
     strength_at_equality_in_earthquake, strength_nearest_in_earthquake,
+    needs_beside_steps, allowances_beside_floors,
 )
 LIGHTER_TANK = (
     earthquake_pulls, earthquake_pulls_nearest, no_vertical_motion, wind_pull_unmoved,
     larger_pull_changes, strength_at_equality_in_earthquake, strength_nearest_in_earthquake,
     weights_that_count,
+)
+IN_STEPS = (
+    needs_beside_steps, allowances_beside_floors, no_need_no_step, largest_needs, short_by_a_step,
 )
 GROUPS = (
     example_cases, readings_astray,
@@ -1139,7 +1282,7 @@ GROUPS = (
     source_document_002, first_foot, course_at_equality_by_api_650, sound_by_api_650_alone,
     floors_by_api_650, courses_told_apart_by_api_650, several_short_by_api_650,
     margins_by_api_650, method_numbers, no_method_and_more, random_by_both_methods,
-    *LIGHTER_TANK,
+    *LIGHTER_TANK, *IN_STEPS,
 )
 
 
@@ -1252,6 +1395,53 @@ def turned(reading, result):
         != result.report.standing.strength.holds
 
 
+# --- Readings of S-7 ----------------------------------------------------------
+
+# A group to how many of its records are called short although every rule holds with half of the
+# plate's margin and the others whole.
+SHORT_WITHIN_HALF = {
+    "margins": 4, "margins_by_api_650": 2, "random_self_anchored": 1, "random_anchored": 3,
+    "sound_by_api_650_alone": 24, "needs_beside_steps": 52, "allowances_beside_floors": 22,
+    "short_by_a_step": 24,
+}
+
+
+class Course(NamedTuple):
+    """Of a judged sheet."""
+    exact: Fraction         # the need
+    c: int
+    D: int
+    parts: int              # of a mil, in which every exact need with its s and E is told
+    reported: judging.CourseReport
+
+
+def courses_of(result):
+    D, H, *_rest = result.sheet.tank
+    edges = judging.bottom_edges(result.sheet)
+    return [Course(judging.exact_need(result.method, max(H - edge, 0), D, s, E), c, D, 72 * s * E,
+                   report)
+            for (edge, (_width, _t, c, s, E)), report in zip(edges, result.report.courses,
+                                                             strict=True)]
+
+
+def told_by(reading, tanks):
+    """How many of these, each with its courses, would be reported with other figures if S-7 were
+    read so, and how many with another verdict on a course."""
+    otherwise = turned = 0
+    for courses in tanks:
+        read = [(reading.course(one.exact, one.c, one.D), one.reported) for one in courses]
+        otherwise += any(figures != course[:2] for figures, course in read)
+        turned += any((required <= course.t) != course.verdict.holds
+                      for (_need, required), course in read)
+    return otherwise, turned
+
+
+def short_with_plate_margin(mils, results):
+    """Those called short although every rule holds with this margin for plate."""
+    return [result for result in results if result.word() == "short" and judging.meets(
+        result.sheet, result.method, judging.with_plate_margin(result.sheet, mils))]
+
+
 # --- Self test, over all vectors ----------------------------------------------
 
 
@@ -1273,7 +1463,7 @@ def check_lines():
         (188, 250), (355 * 14_800, 1_356_000 * 6), (1_000 * 2_133, 19_950 * 606)))
     assert outcome(judge(EXAMPLE)).line() == (
         f"accepted sound wind 2123 73371 anchored 2133 -191 holds {spacing} holds {strength} "
-        f"uses {spacing} {strength} courses 3 | 59 188 250 holds {plate} "
+        f"uses {spacing} {strength} courses 3 | 60 188 250 holds {plate} "
         f"| 40 188 250 holds {plate} | 20 188 250 holds {plate} . . . . . . . . .")
     assert outcome(judge(model.EMPTY)).line() == (
         "refused 32 short wind 0 0 self short 0000000000000000 0 over short 0000000000000000 "
@@ -1385,6 +1575,61 @@ def check_readings_astray():
         assert told_apart(reading, shaken) == shaken, name
 
 
+def judged_in(group):
+    """Those that get a report."""
+    results = (outcome(record).judged for record in group_records()[group.__name__])
+    return [result for result in results if result.refusal is None]
+
+
+def past_a_step(course):
+    """How far its exact need is, in mils if they are whole, else in parts; these may be below 0."""
+    if course.exact.denominator == 1:
+        return course.exact % 5, "mils"
+    return (course.exact - steps.NEAREST(course.exact)) * course.parts, "parts"
+
+
+def check_step_needs(tanks, most):
+    """No need, the least and the largest; exact ones that are none to four mils past a step, and
+    such as are off it by one part, below and above. None and others with an allowance that brings
+    them to the floor, a mil short of it and a mil past it."""
+    courses = [course for tank in tanks for course in tank]
+    needs = {course.reported.need for course in courses}
+    assert {0, 5} <= needs and max(needs) == most
+    assert max(course.reported.required for course in courses) == most + 250
+    kinds = Counter(map(past_a_step, courses))
+    for kind in (*product(range(5), ("mils",)), (-1, "parts"), (1, "parts")):
+        assert kinds[kind] >= 20, (kind, kinds[kind])
+    past_floors = {(course.reported.need > 0,
+                    course.reported.need + course.c - doc.house_floor(course.D))
+                   for course in courses}
+    assert {*product((False, True), (-1, 0, 1))} <= past_floors
+
+
+def check_steps():
+    """Every report has the needs and required plates of S-7's words. By either method each other
+    reading is told apart by many reports, and by many verdicts."""
+    every = [courses_of(result) for group in GROUPS for result in judged_in(group)]
+    assert told_by(steps.RIGHT, every) == (0, 0)
+    for method, most in ((D100, 6_660), (API_650, 6_555)):
+        tanks = [courses_of(result) for group in IN_STEPS for result in judged_in(group)
+                 if result.method == method]
+        check_step_needs(tanks, most)
+        for name, reading in steps.ASTRAY.items():
+            otherwise, turned = told_by(reading, tanks)
+            assert otherwise >= 100 and turned >= 25, (name, method, otherwise, turned)
+
+
+def check_plate_margin():
+    """Half of it would not do, four mils would (see judging.py)."""
+    found = {}
+    for group in GROUPS:
+        within_half = short_with_plate_margin(Fraction(5, 2), judged_in(group))
+        assert not short_with_plate_margin(4, within_half)
+        if within_half:
+            found[group.__name__] = len(within_half)
+    assert found == SHORT_WITHIN_HALF, found
+
+
 def check_shares():
     """Of the random sheets: both words, both ways of standing, both opcodes, every count."""
     records = [record for group in RANDOM_SHEETS for record in group_records()[group.__name__]]
@@ -1421,5 +1666,7 @@ def self_test():
     check_pulls(all_outcomes())
     check_earthquake_pulls()
     check_readings_astray()
+    check_steps()
+    check_plate_margin()
     check_shares()
     check_shares_by_method()

@@ -1,9 +1,9 @@
 """Judging the sheet of document 01, and demand 3 in fractions.
 
 Written from the document alone: "Order" (with requests S-1 and S-3 of document 02), "The rules"
-with the paragraphs after them (with S-5), and the mission's third demand. The rules' figures are
-document.py's; `meets` takes none of them. S-3's method is handed in with the sheet, as any number
-that a u32 holds; bytes are judged by D100.
+with the paragraphs after them (with S-5 and S-7), and the mission's third demand. The rules'
+figures are document.py's; `meets` takes none of them, and nothing that is rounded. S-3's method is
+handed in with the sheet, as any number that a u32 holds; bytes are judged by D100.
 """
 
 from fractions import Fraction
@@ -16,7 +16,7 @@ import sheet as model
 
 
 class CourseReport(NamedTuple):
-    need: int               # the hoop need, without c
+    need: int               # the hoop need in steps of five mils, without c
     required: int
     t: int
     verdict: doc.Verdict
@@ -167,10 +167,11 @@ NO_MARGINS = Margins(*map(Fraction, (0, 0, 0, 0)))
 
 
 def given_margins(sheet):
+    """The mission's; S-7: "The plate margin is five mils from here on"."""
     D, *_rest = sheet.tank
     Hs = model.shell_height(sheet)
     return Margins(
-        plate=Fraction(1),
+        plate=Fraction(5),
         moment=Fraction(D * Hs * Hs, 345_600_000_000) + 1,
         resistance=Fraction(D * D, 72_000_000) + 1,
         pull=Fraction(1),
@@ -178,7 +179,8 @@ def given_margins(sheet):
 
 
 def exact_need(method, h, D, s, E):
-    """Document 01's fraction or, as S-3 has it, 2.6 D (h - 1 ft) / (s E) in feet and inches."""
+    """Document 01's fraction or, as S-3 has it, 2.6 D (h - 1 ft) / (s E) in feet and inches; S-7's
+    steps are rounding, of which demand 3 has none."""
     if method == doc.D100:
         return Fraction(13 * h * D, 72 * s * E)
     feet = max(Fraction(h, 1_200) - 1, 0)
@@ -244,15 +246,15 @@ def borne_out(sheet, method, word_on_it):
 
 # --- Self test ----------------------------------------------------------------
 #
-# The margin of plate is never needed: t and c are whole, so that t below the rounded need plus
-# c is t below the exact need plus c, and no sheet is called short by that rounding alone. Of
-# each of the other three margins half would not do, as HALF_IS_LITTLE shows.
+# Of each margin half would not do, as HALF_IS_LITTLE shows. Of plate four mils would do: the exact
+# need is less than five below the need in steps, and a t that is short of the latter with c is so
+# by a mil or more, for both are whole. Next to nothing less would not do, as JUST_PAST shows.
 
 EXAMPLE_BOTTOM = (250, 0, 36_000)
 LOW_WATER_COURSE = (9_600, 250, 0, 40_000, 100)
 
 # D is 60,000 and h 30,600, 22,950, 15,300, 7,650, so that the need is 13 h / 1,530 mils: 260,
-# 195, 130, 65, nothing rounded. With c every course requires its t.
+# 195, 130, 65, nothing rounded, for these are steps. With c every course requires its t.
 FULL_HEADS = model.held((60_000, 30_600, 25_000, *EXAMPLE_BOTTOM), (105, 109, 115, 27, 30_000),
                         model.SELF_ANCHORED,
                         [(7_650, 260, 65 * place, 15_000, 85) for place in range(4)])
@@ -261,6 +263,29 @@ FULL_HEADS = model.held((60_000, 30_600, 25_000, *EXAMPLE_BOTTOM), (105, 109, 11
 FULL_HEADS_A_FOOT_UP = model.held((60_000, 31_800, *FULL_HEADS.tank[2:]), FULL_HEADS.site,
                                   FULL_HEADS.anchors,
                                   [*FULL_HEADS.courses[:3], (8_850, *FULL_HEADS.courses[3][1:])])
+
+
+def plated(D, H, t, c, s, E, anchors=model.SELF_ANCHORED):
+    """A tank that stands as it is, whatever its D; this t is its bottom course's, and the others
+    have the greatest."""
+    courses = [(12_800, t if place == 0 else 2_000, c, s, E) for place in range(6)]
+    return model.held((D, H, 150_000, *EXAMPLE_BOTTOM), (60, 109, 115, 27, 0), anchors, courses)
+
+
+# The exact need of the bottom course is 200.044, which S-7 makes 205.
+STEPPED = plated(14_400, 38_470, 204, 0, 10_000, 50)
+
+# It is 175 and this, as little past a step as any s and E permit, and S-7 makes it 180.
+LEAST_PAST = Fraction(1, 72 * 40_000 * 100)
+JUST_PAST = plated(87_163, 44_479, 389, 210, 40_000, 100)
+
+# A method, a sheet that it calls short for want of a mil, and how far the exact need is past a
+# step. By API 650 they are the same two with a foot of water more.
+PAST_STEPS = (
+    (doc.D100, STEPPED, Fraction("0.044")), (doc.D100, JUST_PAST, LEAST_PAST),
+    (doc.API_650, plated(14_400, 39_670, 204, 0, 10_000, 50), Fraction("0.044")),
+    (doc.API_650, plated(87_163, 45_679, 389, 210, 40_000, 100), LEAST_PAST),
+)
 
 # Its exact wind pull is 37,905, what its bolts bear.
 WIND_PULL_FULL = model.held((14_400, 9_600, 141_210, *EXAMPLE_BOTTOM), (125, 150, 125, 27, 0),
@@ -286,7 +311,8 @@ JUST_FULL = pulled(7_500_000, 27, 937_496_875, (200, 299_999, 14))
 FRACTIONS_LEFT = (pulled(11_001, 500, 1_789_629, (7, 24_000, 16)),
                   pulled(11_004, 500, 1_789_641, (7, 24_000, 16)))
 
-# A margin, and a sheet called short that meets every rule with half of it and the others whole.
+# A margin, and a sheet called short that meets every rule with half of it and the others whole. Of
+# those for plate the exact need is 35.75, or 35.1 by API 650; both are made 40.
 HALF_IS_LITTLE = (
     ("moment", model.held((14_400, 9_600, 27_691, *EXAMPLE_BOTTOM), (129, 109, 115, 27, 0),
                           model.SELF_ANCHORED, [LOW_WATER_COURSE] * 3)),
@@ -300,6 +326,8 @@ HALF_IS_LITTLE = (
                               [(9_600, 400, 0, 40_000, 100)] * 3)),
     ("pull", pulled(11_000, 27, 257_197)),
     ("pull", JUST_ABOVE),
+    ("plate", plated(12_000, 66_000, 209, 170, 40_000, 100)),
+    ("plate", plated(12_000, 66_000, 209, 170, 40_000, 100, (6, 12_000, 8))),
 )
 
 # A margin, and a sheet called sound that this margin alone would break.
@@ -358,6 +386,26 @@ def check_margins():
     nearly = given_margins(JUST_ABOVE)._replace(pull=Fraction(9, 10) - LEAST_OFF)
     assert meets(JUST_ABOVE, doc.D100, nearly)
     check_margin_counts("plate", FULL_HEADS_A_FOOT_UP, doc.API_650)
+
+
+def with_plate_margin(sheet, mils):
+    """The sheet's margins with this one for plate."""
+    return given_margins(sheet)._replace(plate=Fraction(mils))
+
+
+def check_steps():
+    """What a step adds to the exact need is borne out by four mils of margin, and by no less. A mil
+    more of plate makes the sheets sound."""
+    for method, sheet, past in PAST_STEPS:
+        D, H, *_rest = sheet.tank
+        (width, t, c, s, E), *others = sheet.courses[:sheet.count]
+        assert exact_need(method, H, D, s, E) == t - 4 - c + past
+        assert word_on(sheet, method) == "short"
+        assert meets(sheet, method, with_plate_margin(sheet, 4 - past))
+        assert not meets(sheet, method, with_plate_margin(sheet, 4))
+        thicker = model.held(*sheet[:3], [(width, t + 1, c, s, E), *others])
+        assert word_on(thicker, method) == "sound"
+        assert judge(sheet, method).report.courses[0][:3] == (t + 1 - c, t + 1, t)
 
 
 def exact_earthquake_pull(sheet):
@@ -430,7 +478,7 @@ def self_test():
     assert (report.p, report.M) == (2_123, 73_371)
     assert report.standing[:2] == (2_133, -191)
     assert [course[:3] for course in report.courses] \
-        == [(59, 188, 250), (40, 188, 250), (20, 188, 250)]
+        == [(60, 188, 250), (40, 188, 250), (20, 188, 250)]
 
     # "self wind short resist 94646 none"
     refusal, report = judge(model.EXAMPLE._replace(anchors=model.SELF_ANCHORED), doc.D100)
@@ -443,10 +491,11 @@ def self_test():
     assert judge(model.EMPTY, doc.API_650) == ((32, 0), NO_REPORT)
     assert judge(model.EXAMPLE._replace(count=4), 3) == ((30, 0), NO_REPORT)
 
-    # the mission's margins, on a tank of 12 ft by 24 ft
+    # the mission's margins with S-7's for plate, on a tank of 12 ft by 24 ft
     assert given_margins(model.EXAMPLE) \
-        == (1, Fraction(12 * 24 * 24, 200) + 1, Fraction(12 * 12, 50) + 1, 1)
+        == (5, Fraction(12 * 24 * 24, 200) + 1, Fraction(12 * 12, 50) + 1, 1)
     check_exact()
     check_margins()
+    check_steps()
     check_methods()
     check_weights()

@@ -2,10 +2,11 @@
 
 Each leaf has the domain of its arguments, its answer (from document.py; leaf 40's
 from ground.py, those of leaves 53 to 55 from compression.py), the documents' own figures
-for it (document 01's; request S-2's for leaf 40, S-3's for leaf 50, S-5's for leaves 51
-and 52), and its edges: points at equality or at a whole quotient with those one to either
-side. The two ends of each range, combined, and random points with a fixed seed come from
-the domain; the leaves of S-6 (7, 8 and 53 to 55), for want of room, take no such ends.
+for it (document 01's, those of leaf 23 as request S-7 changes them; S-2's for leaf 40, S-3's
+for leaf 50, S-5's for leaves 51 and 52), and its edges: points at equality or at a whole
+quotient, which for leaf 21 is a step of S-7's, with those one to either side. The two ends of
+each range, combined, and random points with a fixed seed come from the domain; the leaves of
+S-6 (7, 8 and 53 to 55), for want of room, take no such ends.
 """
 
 from fractions import Fraction
@@ -17,6 +18,7 @@ from typing import Callable, NamedTuple
 import compression
 import document as doc
 import ground
+import steps
 
 MOST_STDIN_BYTES = 524_288    # the buffer of the program under test
 ARGUMENTS = 4          # on a line; the unused ones are 0
@@ -46,8 +48,8 @@ N, B_FIELD = doc.FIELD_RANGES[12], doc.FIELD_RANGES[13]
 PLATE, C, S, E = (doc.FIELD_RANGES[field] for field in range(16, 20))
 B = from_one(B_FIELD)                       # of an anchored tank
 HEIGHT = (0, 76_800)                        # h, or Hs
-NEED = (0, 6_656)                           # hoop need
-REQUIRED = (0, 6_906)
+NEED = (0, 6_660)                           # hoop need, in S-7's steps
+REQUIRED = (0, 6_910)
 P = (0, 6_480)
 MOMENT = (0, 1_000_000_000)
 TB = (0, 500)
@@ -308,13 +310,25 @@ def head_edges(rng):
 
 
 def hoop_need_edges(rng):
+    """Exact needs that are steps of S-7's."""
     for _ in range(2 * EDGE_DRAWS):
         diameter = round_draw(rng, D, 1_200)
         s = round_draw(rng, S, 1_000)
         efficiency = round_draw(rng, E, 5)
-        h = whole_at(rng, 13 * diameter, 72 * s * efficiency, HEIGHT)
+        h = whole_at(rng, 13 * diameter, doc.NEED_STEP * 72 * s * efficiency, HEIGHT)
         if h is not None:
             yield from neighbours(h, diameter, s, efficiency)
+    yield from (point for _need, point in step_points())
+
+
+def step_points():
+    """The need, and the point: at steps, next to them and between."""
+    yield 0, (0, *steps.LEAST_NEEDED[1:])
+    yield 5, steps.LEAST_NEEDED
+    for step in steps.STEPS:
+        yield from steps.beside_step(step)
+    yield from (*steps.whole_mils(), *steps.half_steps())
+    yield from (*steps.LARGEST_BY_BOTH, *steps.LARGEST_BY_D100)
 
 
 FLOOR_BOUNDARIES = (60_000, 144_000)
@@ -336,6 +350,19 @@ def required_edges(rng):
             c = even_draw(rng, (0, 188))
             for need in beside(doc.house_floor(diameter) - c):
                 yield need, c, diameter
+    yield from allowance_edges()
+
+
+def allowance_edges():
+    """Needs in S-7's steps, none and the largest among them, with allowances that bring them next
+    to the floor and past it, at steps and between."""
+    for diameter, needs in ((60_000, (0, 60, 185, 190)), (144_000, (0, 125, 245, 250)),
+                            (144_001, (65, 250, 310, 315))):
+        house = doc.house_floor(diameter)
+        for need, past in product(needs, (-2, -1, 0, 1, 3)):
+            yield need, house + past - need, diameter
+    for need, c in product((6_555, 6_660), (0, 1, 248, 250)):
+        yield need, c, 240_000
 
 
 def course_verdict_edges(rng):
@@ -915,8 +942,8 @@ LEAVES = {
     23: Leaf(
         (NEED, C, U32),
         lambda need, c, diameter: decimal(doc.required_plate(need, c, diameter)),
-        ((59, 0, 14_400), (40, 0, 14_400), (20, 0, 14_400), (59, 0, 60_000), (59, 0, 60_001),
-         (59, 0, 144_000), (59, 0, 144_001)),
+        ((60, 0, 14_400), (40, 0, 14_400), (20, 0, 14_400), (60, 0, 60_000), (60, 0, 60_001),
+         (60, 0, 144_000), (60, 0, 144_001)),
         required_edges,
         usual=((0, 400), C, D),
     ),
@@ -1166,7 +1193,7 @@ def as_bytes(lines):
     return "".join(line + "\n" for line in lines).encode("ascii")
 
 
-# --- Self test: leaves 12, 50, 51 and 52, and those of S-6 --------------------
+# --- Self test: leaves 12, 21, 23, 50, 51 and 52, and those of S-6 ------------
 
 
 def check_refusals():
@@ -1175,6 +1202,28 @@ def check_refusals():
     assert len(places) == len(doc.REFUSALS) and len(fields) == 1 + len(doc.FIELD_RANGES)
     assert sorted(leaf_points(12)) == list(product(places, fields))
     assert answer("12 20 7 0 0") == "refused 42 0" and answer("12 21 7 0 0") == "refused 43 0"
+
+
+def edges_asked(number):
+    """The leaf's edges, as far as they are in its domain."""
+    edges = {*LEAVES[number].edges(Random(number))}
+    return [point for point in leaf_points(number) if point in edges]
+
+
+def check_steps():
+    """Of leaves 21 and 23: the answers that S-7 has. Each reading that goes astray is told apart by
+    many lines that are not drawn at random."""
+    for need, point in step_points():
+        assert answer(leaf_line(21, point)) == decimal(need), (need, point)
+    exact_ones = [doc.exact_hoop_need(*point) for point in edges_asked(21)]
+    for name, need in steps.NEEDS_ASTRAY.items():
+        assert sum(need(exact) != steps.UP(exact) for exact in exact_ones) >= 50, name
+    of_steps = {*allowance_edges()}
+    courses = [(need, need, c, doc.house_floor(diameter))
+               for need, c, diameter in of_steps & {*edges_asked(23)}]
+    for name, plate in steps.PLATES_ASTRAY.items():
+        astray = sum(plate(*course) != steps.RIGHT.plate(*course) for course in courses)
+        assert astray >= 10 or name == "no step in it", (name, astray)  # these needs are steps
 
 
 def check_methods():
@@ -1295,6 +1344,7 @@ def check_allowed():
 
 def self_test():
     check_refusals()
+    check_steps()
     check_methods()
     check_lighter_tanks()
     check_long_divisions()

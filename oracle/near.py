@@ -8,7 +8,7 @@ letters; every draw comes from the rng handed in.
 import document as doc
 import sheet as model
 
-MOST_NEED = 1_750       # leaves room for an allowance in the greatest plate
+MOST_NEED = 1_750       # a step of S-7's; leaves room for an allowance in the greatest plate
 SELF_RULES = ("course", "wind", "earthquake")
 ANCHORED_RULES = ("course", "spacing", "wind pull", "earthquake pull")
 NEED_STARTS = {doc.D100: 0, doc.API_650: doc.FOOT}      # with the water this far above the edge

@@ -17,15 +17,16 @@ import judging
 import near
 import scripts
 import sheet as model
+import steps
 import text
 import tries
 from judged import (
-    BREAKS, EXAMPLE, FIFTHS, SELF, TALL_FIFTHS, TALL_UPWARD, UPWARD, changed, counted,
-    course_changed, has_part, self_anchored, shaken_about, turning, with_courses, with_figure,
-    with_widths,
+    BREAKS, EXAMPLE, FIFTHS, FLOORS_NEARED, SELF, TALL_FIFTHS, TALL_UPWARD, UPRIGHT, UPWARD,
+    changed, counted, course_changed, courses_of, has_part, on_first_of, on_point, plates_about,
+    self_anchored, shaken_about, told_by, turning, with_courses, with_figure, with_widths,
 )
 from leaves import beside
-from records import refusal_word
+from records import Judged, refusal_word
 from scripts import (
     EXAMPLE_BYTES, FULL_BYTES, FULL_COURSES, GOOD_LENGTHS, PLATE_CASES, anchor_cases,
     courses_to, end_figures, exchange, field_at, length_word, put_field, put_length, subsets,
@@ -123,7 +124,7 @@ LARGEST = changed(LONGEST, plate=500, Fy=50_000, t=2_000, c=250)    # in its nee
 def cases_on_the_tank():
     """Those that bytes can be: a thirteenth course, 33, cannot be read (13)."""
     assert text_of(EXAMPLE_BYTES) == text.EXAMPLE_TEXT
-    yield whole(EXAMPLE, "course 1 59 188 250 ok", "course 2 40 188 250 ok",
+    yield whole(EXAMPLE, "course 1 60 188 250 ok", "course 2 40 188 250 ok",
                 "course 3 20 188 250 ok", "wind 2123 73371", "pull 2133 -191",
                 "anchors spacing ok strength ok", "tank sound")
     yield whole(changed(EXAMPLE, V=96), "wind 1800 62208", "tank sound")
@@ -138,7 +139,7 @@ def cases_on_the_tank():
     yield whole(changed(standing, W=18_343), "self wind ok resist 122391 none", "tank sound")
     for D, floor in ((60_000, 188), (60_001, 250)):
         yield whole(changed(standing, D=D), f"course 1 245 {max(245, floor)} 250 ok",
-                    f"course 2 164 {floor} 250 ok", f"course 3 82 {floor} 250 ok")
+                    f"course 2 165 {floor} 250 ok", f"course 3 85 {floor} 250 ok")
     yield refused("refused 37", model.sheet_as_bytes(changed(EXAMPLE, H=28_801)))
     for width in (5_000, 9_600):        # 65,000 in all, and too high
         courses = [(width, *EXAMPLE.courses[0][1:])] * 13
@@ -377,13 +378,23 @@ def course_counts():
                 yield whole(base, f"course {n}", "tank")
 
 
+def telling_courses(most):
+    """Needs up to the most, and c. The needs are telling numbers or, as S-7 has steps, those next
+    to them; with the last of the allowances the required plates are just the telling ones."""
+    plates = telling(250, most + 250)
+    numbers = {*telling(0, most), *(plate - 250 for plate in plates)}
+    needs = {beside_it(number) for number in numbers for beside_it in (steps.DOWN, steps.UP)}
+    yield from product(sorted(needs), (0, 7, 250))
+    for plate in plates:
+        need = steps.UP(plate - 250)
+        yield need, plate - need
+
+
 def needs_and_plates():
     """In course 2, where h is H less 1,200: s 10,000, E 50 and D 240,000 make it h 13 / 150."""
     base = with_widths(changed(EXAMPLE, D=240_000, B=240_000, W=1_000_000, s=10_000, E=50),
                        [1_200, *[12_600] * 6])
-    most = 6_552
-    needs = {*telling(0, most), *(required - 250 for required in telling(250, most + 250))}
-    for need, c in product(sorted(needs), (0, 7, 250)):
+    for need, c in telling_courses(6_550):
         required = max(need + c, 313)
         for t in sorted({near.within(16, required), near.within(16, required - 1)}):
             word = "ok" if t >= required else "short"
@@ -441,7 +452,7 @@ def moments():
     for M in (90, *telling(90, 26_000_000)):
         _wind, p = wind_for(M)
         yield whole(sheet_of_moment(M), f"wind {p} {M}")
-    yield whole(LARGEST, "course 1 6656 6906 2000 short", "wind 6480 26542080")
+    yield whole(LARGEST, "course 1 6660 6910 2000 short", "wind 6480 26542080")
 
 
 def sheet_of_resistance(T):
@@ -520,7 +531,7 @@ def courses_in_turn():
             yield whole(sound, "tank sound")
             others_short = changed(sound, t=187)
             for number in range(1, n + 1):
-                need = 3 if number == 1 else 0
+                need = 5 if number == 1 else 0
                 yield whole(course_changed(sound, number, t=187),
                             f"course {number} {need} 188 187 short", "tank short")
                 if n > 2:
@@ -549,9 +560,9 @@ def standings_in_turn():
 
 
 def longest_and_shortest():
-    yield whole(LONGEST, "course 12 1248 1248 1000 short", "wind 6480 26542080",
+    yield whole(LONGEST, "course 12 1250 1250 1000 short", "wind 6480 26542080",
                 "pull -1078193 2179267", "anchors spacing short strength short", "tank short")
-    yield whole(SHORTEST, "course 1 3 188 250 ok", "wind 1800 90", "self wind ok resist",
+    yield whole(SHORTEST, "course 1 5 188 250 ok", "wind 1800 90", "self wind ok resist",
                 "tank sound")
     for letter, figures in (("d", (7, 16)), ("N", (7, 10, 63)), ("t", (100, 999, 1_001, 2_000)),
                             ("Ms", (0, 1_000, 420_000_000)), ("W", (1, 600_000, 10_000_000)),
@@ -566,6 +577,55 @@ def longest_and_shortest():
     yield Case(model.sheet_as_bytes(self_anchored(LARGEST)))
     for d in doc.BOLT_CHART:
         yield Case(model.sheet_as_bytes(SHORTEST._replace(anchors=(6, 12_000, d))))
+
+
+# --- Groups: the steps of request S-7 -----------------------------------------
+
+
+def at_required_and_less(sheet, number, need, c):
+    """The lines of this course with what it requires and a mil less, or the least plate above c."""
+    required = max(need + c, doc.house_floor(sheet.tank[0]))
+    for t in plates_about(required, c):
+        verdict, word = ("ok", "sound") if t >= required else ("short", "short")
+        yield whole(course_changed(sheet, number, t=t, c=c),
+                    f"course {number} {need} {required} {t} {verdict}", f"tank {word}")
+
+
+def needs_beside_steps():
+    """Exact ones just below a step, at it and just above, and one to four mils past it."""
+    needs = [pair for step in (5, 10, 60, 125, 185, 190, 250, 315, 1_000, 1_750)
+             for pair in steps.beside_step(step)]
+    for place, (need, point) in enumerate((*needs, *steps.whole_mils())):
+        number, sheet = on_first_of(((1, 2), (2, 1))[place % 2], UPRIGHT, point, doc.D100)
+        c = min(max(doc.house_floor(point[1]) - need, 0) + 1 + place % 4, 250)
+        yield from at_required_and_less(sheet, number, need, c)
+
+
+def allowances_beside_floors():
+    """The need with c is next to the floor, at it, and past it by one to four; the exact one is
+    three mils short of it. Without a need, c alone is so."""
+    for D, (_first, second, third, _last) in FLOORS_NEARED.items():
+        house = doc.house_floor(D)
+        for need, past in product((second, third), range(-1, 5)):
+            if need <= house + past:
+                sheet = on_point(UPRIGHT, steps.of_mils(need - 3, D), doc.D100, 1)
+                yield from at_required_and_less(sheet, 1, need, house + past - need)
+        dry = changed(with_widths(UPRIGHT, [1_200, 1_200]), D=D, H=1_200, t=2_000)
+        for c in (house - 4, *beside(house), 250):
+            if c <= 250:
+                yield from at_required_and_less(dry, 2, 0, c)
+
+
+def short_by_a_step():
+    """D 14,400, H 38,470, s 10,000, E 50: exactly 200.044. Then as little past a step as can be."""
+    for sheet, need, c in ((judging.STEPPED, 205, 0), (judging.JUST_PAST, 180, 210)):
+        yield from at_required_and_less(sheet, 1, need, c)
+
+
+def largest_needs():
+    for (need, point), c in product((*steps.LARGEST_BY_BOTH, *steps.LARGEST_BY_D100), (3, 250)):
+        yield whole(course_changed(on_point(UPRIGHT, point, doc.D100, 1), 1, c=c),
+                    f"course 1 {need} {need + c} 2000 short", "tank short")
 
 
 # --- Groups: at random, from fixed seeds --------------------------------------
@@ -698,6 +758,7 @@ def random_noise():
 
 # --- All groups ---------------------------------------------------------------
 
+IN_STEPS = (needs_beside_steps, allowances_beside_floors, short_by_a_step, largest_needs)
 GROUPS = (
     cases_on_the_tank, tried_by_hand,
     refusals_alone_and_two, refusals_all_at_once, fields_outside, two_fields_outside, allowances,
@@ -706,7 +767,7 @@ GROUPS = (
     course_counts, needs_and_plates, plates, pressures, moments, resistances, pulls,
     accelerations, courses_in_turn, standings_in_turn, longest_and_shortest,
     random_self_anchored, random_anchored, random_even, random_refused, random_damage,
-    random_changes, random_noise,
+    random_changes, random_noise, *IN_STEPS,
 )
 
 
@@ -854,6 +915,17 @@ def check_lighter_tanks():
     assert {*map(signed_length, pulls)} == {*map(signed_length, numbers_at("pull", 2))}
 
 
+def check_steps():
+    """Each reading of S-7 that goes astray is told apart by many texts, in some by a verdict."""
+    cases = [case for group in IN_STEPS for case in group_cases()[group.__name__]]
+    answers = (marked(case.content) for case in cases)
+    tanks = [courses_of(Judged(sheet, doc.D100, *answer)) for sheet, answer in answers]
+    assert told_by(steps.RIGHT, tanks) == (0, 0)
+    for name, reading in steps.ASTRAY.items():
+        otherwise, turned = told_by(reading, tanks)
+        assert otherwise >= 40 and turned >= 5, (name, otherwise, turned)
+
+
 def check_refusals():
     """All that bytes lead to, 16 with every field."""
     words = {one for one in texts() if word_on(one) == "refused"}
@@ -891,6 +963,7 @@ def self_test():
     check_forms()
     check_numbers()
     check_lighter_tanks()
+    check_steps()
     check_refusals()
     check_over_long()
     check_sizes()

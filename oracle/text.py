@@ -68,10 +68,10 @@ def marked_text(content):
     return answer_text(judging.mark(content).answer)
 
 
-# --- Self test: "The example tank", with the second pull of S-5 ---------------
+# --- Self test: "The example tank", with S-5's second pull and S-7's first need
 
 EXAMPLE_TEXT = b"""\
-course 1 59 188 250 ok
+course 1 60 188 250 ok
 course 2 40 188 250 ok
 course 3 20 188 250 ok
 wind 2123 73371
@@ -80,7 +80,7 @@ anchors spacing ok strength ok
 tank sound
 """
 SELF_TEXT = b"""\
-course 1 59 188 250 ok
+course 1 60 188 250 ok
 course 2 40 188 250 ok
 course 3 20 188 250 ok
 wind 2123 73371

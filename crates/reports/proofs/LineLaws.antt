@@ -12,10 +12,17 @@ use Rattle.rules.specs.declared.method.Method.{Method}
 use Rattle.entries.specs.Sheet.{blank_course, height_of}
 use Rattle.entries.specs.declared.sheet.Tank.{Tank}
 use Rattle.entries.specs.declared.sheet.Course.{Course}
-use Rattle.reports.specs.Report.{line_of, lines_of}
+use Rattle.rules.specs.Hoop.{course_verdict}
+use Rattle.rules.proofs.VerdictLaws.{verdict_for}
+use Rattle.reports.specs.Figures.{need_on}
+use Rattle.reports.specs.Report.{line_of, lines_of, LineFor}
 use Rattle.reports.specs.declared.report.CourseLine.{CourseLine}
 
 module _ (m : Method) (t : Tank) where
+  pub line_for : (y : ℕ) (c : Course) → LineFor (need_on m t y c) t c (line_of m t y c)
+  unfolding line_of course_verdict
+  line_for y c = record { need_is = refl; required_is = refl; plate_is = refl; verdict_is = verdict_for _ _ }
+
   pub lines_length : (y : ℕ) (cs : List Course) → length (lines_of m t y cs) ≡ length cs
   lines_length y [] = refl
   lines_length y (c ∷ cs) = ap suc (lines_length (y + c.width) cs)

@@ -1,5 +1,6 @@
 -- Demand 3, from the two laws of each figure: a rule that holds as rounded holds exactly, and one that falls short as rounded fails once
--- the exact figures are shifted by their margins. Nothing here unfolds a figure, its rounding or its margin.
+-- the exact figures are shifted by their margins. Nothing here unfolds a figure or its rounding; of the margins that
+-- of plate alone, so that half of it is refused here, and a larger one, which only weakens the claim, by Pinned.
 -- Assumes nothing.
 use mathlib.Core.Path.{◌≡◌, refl, sym, ap, ◌∙◌, subst}
 use mathlib.Core.Bool.{Bool, true, false, cond, ◌&&◌}
@@ -68,10 +69,11 @@ module _ (method : Method) (t : Tank) (y : ℕ) (c : Course) (k : T (clear (cour
       record { floor = m.1; hoop = omega (arith, (need_rounded method t y c k).safe, mul-le-mul_right (need_exact_on method t y c).den m.0) }
 
   course_short : (Hs : ℕ) → holds (line_of method t y c).verdict ≡ false → CourseMeets (margins_for t.diameter Hs) t (need_exact_on method t y c) c → ⊥
+  unfolding plate_margin
   course_short Hs e m =
       not-le_of_lt (leb-false _ _ (sym line_holds ∙ e))
       (required_least (need_on method t y c) c.allowance t.diameter c.plate
-      (plate_near (need_exact_on method t y c) plate_margin (need_on method t y c) c.allowance c.plate (need_rounded method t y c k).near m.hoop)
+      (plate_near (need_exact_on method t y c) plate_margin (need_on method t y c) c.allowance c.plate (need_rounded method t y c k).near (omega (arith, m.hoop)))
       m.floor)
 
 module _ (method : Method) (t : Tank) where

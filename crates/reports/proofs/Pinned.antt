@@ -29,7 +29,8 @@ use Rattle.sheet.specs.Complete.{entries_of, courses_of}
 use Rattle.sheet.specs.declared.complete.Entries.{Entries}
 use Rattle.reports.specs.Figures.{need_exact_on, bottom_plate, ResistsOn, wind_weight, quake_weight}
 use Rattle.reports.specs.Meets.{Margins, no_margins, plate_with, CourseMeets, CoursesMeet, moment_with, SelfMeets, AnchorsMeet, MeetsWith, margins_of}
-use Rattle.reports.specs.Pinned.{pinned_on, sheets, expected_figures, Edge, edges, EachEdge}
+use Rattle.reports.specs.Cases.{mil_below}
+use Rattle.reports.specs.Pinned.{◌over◌, pinned_on, sheets, expected_figures, Edge, edges, EachEdge, with_plate, HalfTooLittle}
 
 pub pinned : map pinned_on sheets ≡ expected_figures
 unfolding shell_exact cap_exact root_most resistance_margin head_of design_head hoop_exact plate_margin pressure_exact moment_exact moment_margin reduced_weight pull_margin
@@ -215,3 +216,11 @@ pub edges_hold : (method : Method) → EachEdge method (edges method)
 unfolding shell_exact cap_exact root_most resistance_margin head_of design_head hoop_exact plate_margin plate_floor pressure_exact moment_exact moment_margin stress_area reduced_weight pull_margin
 edges_hold D100 = each_edge D100 (edges D100) tt
 edges_hold Api650 = each_edge Api650 (edges Api650) tt
+
+-- ---- the plate's margin is not to be halved
+
+pub half_too_little : HalfTooLittle D100 mil_below
+unfolding shell_exact cap_exact root_most resistance_margin head_of design_head hoop_exact plate_margin plate_floor pressure_exact moment_exact moment_margin stress_area reduced_weight pull_margin
+half_too_little =
+    let e = entries_of mil_below in
+    record { breaks = meets_test_lem D100 (margins_of e) e; meets = test_meets D100 (with_plate (5 over 2) (margins_of e)) e tt }

@@ -1,5 +1,6 @@
 -- The cases that document 01 marks ◆: "The example tank" with the figures changed that the case names, and what its
--- report then says, its earthquake pull by document 02, S-5; beside them the case of S-3. And the same tank with its anchors left out (S-1).
+-- report then says, its earthquake pull by document 02, S-5, and its needs by S-7; beside them the case of S-3, and a plate a mil below its
+-- need (S-7). And the same tank with its anchors left out (S-1).
 use Rattle.std.specs.Prelude.{List, [], ◌∷◌, ℕ, ◌-◌, ℤ, pos, neg_ℤ, get_or, replicate, Some, None}
 use Rattle.fields.specs.Refusal.{plain}
 use Rattle.fields.specs.declared.refusal.Code.{Code}
@@ -11,7 +12,7 @@ use Rattle.entries.specs.Sheet.{blank_course, no_anchors}
 use Rattle.entries.specs.declared.sheet.Anchors.{Anchors}
 use Rattle.entries.specs.declared.sheet.Course.{Course}
 use Rattle.entries.specs.declared.sheet.Sheet.{Sheet}
-use Rattle.reports.specs.Report.{blank_line}
+use Rattle.reports.specs.Report.{blank_line, tank_word}
 use Rattle.reports.specs.Judging.{judged}
 use Rattle.reports.specs.declared.report.SelfChecks.{SelfChecks}
 use Rattle.reports.specs.declared.report.AnchorChecks.{AnchorChecks}
@@ -50,6 +51,19 @@ source002_with t c =
     let k : Course = record { width = 9600; plate = t; allowance = c; stress = 21000; efficiency = 70 } in
     record { tank = example.tank; site = example.site; anchors = example.anchors; courses = k ∷ k ∷ k ∷ replicate 9 blank_course; count = 3 }
 
+-- A mil below its need of 205, the lowest course's plate is 3.956 above the exact one, 200.044; the other courses, and the tank in wind and
+-- earthquake, have plenty to spare.
+abbrev pub mil_below : Sheet
+mil_below =
+    let course : ℕ → Course = λ t. record { width = 14400; plate = t; allowance = 0; stress = 10000; efficiency = 50 } in
+    record {
+      tank = Some (record { diameter = 14400; level = 38470; weight = 100000; plate = 250; allowance = 0; fy = 36000 });
+      site = Some (record { speed = 60; exposure = 100; importance = 100; vertical = 0; moment = 0 });
+      anchors = Some no_anchors;
+      courses = course 204 ∷ course 188 ∷ course 188 ∷ replicate 9 blank_course;
+      count = 3;
+    }
+
 -- What a report says at one place: a number, or a word; of the other way of standing there is nothing to say.
 pub data Excerpt : Type 0 where
   number : ℤ → Excerpt
@@ -85,6 +99,9 @@ spacing report = by_standing (λ checks. nothing) (λ checks. word (verdict_word
 abbrev pub lift : Report → Excerpt
 lift report = by_standing (λ checks. word (uplift_word checks.uplift)) (λ checks. nothing) report.standing
 
+abbrev pub tank_called : Report → Excerpt
+tank_called report = word (tank_word report.word)
+
 pub record Case : Type 0 where
   pub by : ℕ
   pub sheet : Sheet
@@ -100,7 +117,7 @@ case = case_by 1
 
 abbrev pub proved_cases : List Case
 proved_cases =
-    case example (need_of 1) (number (pos 59))
+    case example (need_of 1) (number (pos 60))
     ∷ case example (need_of 2) (number (pos 40))
     ∷ case example (need_of 3) (number (pos 20))
     ∷ case (example_with 96 30000 (six_on 14800)) pressure (number (pos 1800))
@@ -114,14 +131,19 @@ proved_cases =
     ∷ case (example_with 105 74298 no_anchors) lift (word lift_word)
     ∷ case (example_with 105 145754 no_anchors) lift (word lift_word)
     ∷ case (example_with 105 145755 no_anchors) lift (word over_word)
-    ∷ case_by 2 (source002_with 250 0) (need_of 1) (number (pos 49))
-    ∷ case_by 2 (source002_with 250 0) (need_of 2) (number (pos 32))
+    ∷ case_by 2 (source002_with 250 0) (need_of 1) (number (pos 50))
+    ∷ case_by 2 (source002_with 250 0) (need_of 2) (number (pos 35))
     ∷ case_by 2 (source002_with 250 0) (need_of 3) (number (pos 15))
-    -- with an allowance of 139 the 49 come to just the floor, D100's 51 to two mils more
-    ∷ case_by 2 (source002_with 188 139) (required_of 1) (number (pos 188))
-    ∷ case_by 2 (source002_with 188 139) (course_word 1) (word ok_word)
-    ∷ case (source002_with 188 139) (required_of 1) (number (pos 190))
-    ∷ case (source002_with 188 139) (course_word 1) (word short_word)
+    -- with an allowance of 138 the 50 come to just the floor, D100's 55 to five mils more; with one of 139 the 50 come to 189, which is
+    -- not rounded up again
+    ∷ case_by 2 (source002_with 188 138) (required_of 1) (number (pos 188))
+    ∷ case_by 2 (source002_with 188 138) (course_word 1) (word ok_word)
+    ∷ case (source002_with 188 138) (required_of 1) (number (pos 193))
+    ∷ case (source002_with 188 138) (course_word 1) (word short_word)
+    ∷ case_by 2 (source002_with 188 139) (required_of 1) (number (pos 189))
+    ∷ case_by 2 (source002_with 188 139) (course_word 1) (word short_word)
+    ∷ case mil_below (need_of 1) (number (pos 205))
+    ∷ case mil_below tank_called (word short_word)
     ∷ []
 
 -- What judging a case's sheet comes to: no refusal, and what the case says.

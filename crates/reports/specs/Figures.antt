@@ -1,5 +1,5 @@
--- The figures of a sheet: each rule of document 01, that of hoop by either method (document 02, S-3) and that of pull with the weight of each
--- load (S-5), on what a sheet holds, rounded for the report and exact for demand 3, side by side.
+-- The figures of a sheet: each rule of document 01, that of hoop by either method and in steps (document 02, S-3 and S-7) and that of pull
+-- with the weight of each load (S-5), on what a sheet holds, rounded for the report and exact for demand 3, side by side.
 use Rattle.std.specs.Prelude.{ℕ, ◌-◌, ℤ}
 use Rattle.exact.specs.Quotient.{Ratio, whole}
 use Rattle.fields.specs.Bolt.{stress_area}

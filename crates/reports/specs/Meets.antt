@@ -1,6 +1,6 @@
--- Demand 3 in fractions: document 01, the end of "The rules"; document 02, S-3 and S-5. The exact rules take the fields only, nothing of the
--- report, and round nothing; one text serves every margin and either method for hoop need. Fractions are compared as whole numbers, their
--- divisors multiplied out.
+-- Demand 3 in fractions: document 01, the end of "The rules"; document 02, S-3, S-5 and S-7. The exact rules take the fields only, nothing
+-- of the report, and round nothing; one text serves every margin and either method for hoop need. Fractions are compared as whole numbers,
+-- their divisors multiplied out.
 use Rattle.std.specs.Prelude.{◌≡◌, List, [], ◌∷◌, ◌⊎◌, ℕ, ◌+◌, ◌*◌, ◌≤◌, ◌<◌}
 use Rattle.lists.specs.Ascii.{ascii}
 use Rattle.exact.specs.Quotient.{Ratio, whole, plus}
@@ -34,7 +34,7 @@ pub record Margins : Type 0 where
 abbrev pub no_margins : Margins
 no_margins = record { plate = whole 0; moment = whole 0; resistance = whole 0; pull = whole 0 }
 
--- "with each m as given": 1; D × Hs × Hs / 345,600,000,000 + 1; D × D / 72,000,000 + 1; 1
+-- "with each m as given": 5, by S-7; D × Hs × Hs / 345,600,000,000 + 1; D × D / 72,000,000 + 1; 1
 abbrev pub margins_for : ℕ → ℕ → Margins
 margins_for D Hs =
     record {

@@ -1,6 +1,6 @@
 -- What guards demand 3 on its weak side: a larger margin, an exact figure rounded within its margin, or a rule that asks more than document
 -- 01's would only weaken the claim, and the other proofs would not refuse it. So exact figures and margins stand at literal numbers on two
--- tanks, and each exact rule has sheets at its edge.
+-- tanks, and each exact rule has sheets at its edge. And on the strong side, a sheet with which half of the plate's margin is too little.
 use Rattle.std.specs.Prelude.{List, [], ◌∷◌, ◌++◌, ℕ, ◌+◌, replicate, Some}
 use Rattle.exact.specs.Quotient.{Ratio, whole}
 use Rattle.rules.specs.declared.method.Method.{Method}
@@ -14,7 +14,7 @@ use Rattle.sheet.specs.Complete.{entries_of, courses_of}
 use Rattle.sheet.specs.declared.complete.Entries.{Entries}
 use Rattle.reports.specs.Cases.{example_with, six_on, example, source002_with}
 use Rattle.reports.specs.Figures.{need_exact_on, moment_exact_on, bottom_plate, wind_weight, quake_weight}
-use Rattle.reports.specs.Meets.{no_margins, plate_with, moment_with, MeetsWith, margins_of}
+use Rattle.reports.specs.Meets.{Margins, no_margins, plate_with, moment_with, MeetsWith, margins_of}
 
 infix 40 ◌over◌
 abbrev pub ◌over◌ : ℕ → ℕ → Ratio
@@ -59,7 +59,7 @@ exact_figures e =
     ∷ quake_weight e.tank e.site
     ∷ []
 
--- 1; D × Hs × Hs / 345,600,000,000 + 1; D × D / 72,000,000 + 1; 1
+-- 5; D × Hs × Hs / 345,600,000,000 + 1; D × D / 72,000,000 + 1; 1
 abbrev pub margin_list : Entries → List Ratio
 margin_list e = let m = margins_of e in m.plate ∷ m.moment ∷ m.resistance ∷ m.pull ∷ []
 
@@ -100,7 +100,7 @@ example_exact =
 
 abbrev pub example_margins : List Ratio
 example_margins =
-    (1 over 1)
+    (5 over 1)
     ∷ (12289536000000 over 345600000000)
     ∷ (279360000 over 72000000)
     ∷ (1 over 1)
@@ -108,12 +108,12 @@ example_margins =
 
 abbrev pub example_shifted : List Ratio
 example_shifted =
-    (5483160000 over 91800000)
-    ∷ (3686040000 over 91800000)
-    ∷ (1888920000 over 91800000)
-    ∷ (5258520000 over 91800000)
-    ∷ (3461400000 over 91800000)
-    ∷ (1664280000 over 91800000)
+    (5850360000 over 91800000)
+    ∷ (4053240000 over 91800000)
+    ∷ (2256120000 over 91800000)
+    ∷ (5625720000 over 91800000)
+    ∷ (3828600000 over 91800000)
+    ∷ (2031480000 over 91800000)
     ∷ (3424410735375974400000000000000000 over 46656000000000000000000000000)
     ∷ []
 
@@ -135,7 +135,7 @@ second_exact =
 
 abbrev pub second_margins : List Ratio
 second_margins =
-    (1 over 1)
+    (5 over 1)
     ∷ (63332249760000 over 345600000000)
     ∷ (3672120001 over 72000000)
     ∷ (1 over 1)
@@ -143,12 +143,12 @@ second_margins =
 
 abbrev pub second_shifted : List Ratio
 second_shifted =
-    (25517190000 over 100800000)
-    ∷ (13379962800 over 110160000)
-    ∷ (1584015600 over 108000000)
-    ∷ (24581174400 over 100800000)
-    ∷ (12443947200 over 110160000)
-    ∷ (648000000 over 108000000)
+    (25920390000 over 100800000)
+    ∷ (13820602800 over 110160000)
+    ∷ (2016015600 over 108000000)
+    ∷ (24984374400 over 100800000)
+    ∷ (12884587200 over 110160000)
+    ∷ (1080000000 over 108000000)
     ∷ (15314305745397600000000000000000000 over 46656000000000000000000000000)
     ∷ []
 
@@ -202,8 +202,8 @@ edge meets breaks = record { meets = meets; breaks = breaks }
 
 -- plate, by API 650 one that would not do by D100
 abbrev pub plate_edge : Method → Edge
-plate_edge D100 = edge (anchored_with 254) (anchored_with 252)
-plate_edge Api650 = edge (source002_with 250 200) (source002_with 248 200)
+plate_edge D100 = edge (anchored_with 258) (anchored_with 252)
+plate_edge Api650 = edge (source002_with 254 200) (source002_with 248 200)
 
 -- and, the same sheets by either method: floor; self-anchored: wind, and earthquake where the cap limits the resistance and where the root
 -- does; anchored: wind, earthquake, and spacing
@@ -224,3 +224,13 @@ EachEdge method [] = Unit {0}
 EachEdge method (e ∷ es) =
     (MeetsWith method (margins_of (entries_of e.meets)) (entries_of e.meets) × (MeetsWith method no_margins (entries_of e.breaks) → ⊥))
     × EachEdge method es
+
+-- the same margins but for that of plate
+abbrev pub with_plate : Ratio → Margins → Margins
+with_plate m ms = record { plate = m; moment = ms.moment; resistance = ms.resistance; pull = ms.pull }
+
+-- A sheet with which half of the plate's margin is too little: `proved_cases` has it short, and it breaks a rule with the margins as given,
+-- but meets every rule with half of the plate's margin.
+pub record HalfTooLittle (method : Method) (s : Sheet) : Type 0 where
+  pub breaks : MeetsWith method (margins_of (entries_of s)) (entries_of s) → ⊥
+  pub meets : MeetsWith method (with_plate (5 over 2) (margins_of (entries_of s))) (entries_of s)

@@ -1,12 +1,12 @@
--- The report on a sheet with tank, site and courses, by a method for hoop need: document 01, "The rules"; document 02, S-3 and S-5.
-use Rattle.std.specs.Prelude.{Bool, cond, ◌&&◌, List, [], ◌∷◌, ℕ, ◌+◌, eqb, Float, length, replicate}
+-- The report on a sheet with tank, site and courses, by a method for hoop need: document 01, "The rules"; document 02, S-3, S-5 and S-7.
+use Rattle.std.specs.Prelude.{◌≡◌, Bool, cond, ◌&&◌, List, [], ◌∷◌, ℕ, ◌+◌, eqb, Float, length, replicate}
 use Rattle.std.specs.Float.{binary64}
 use Rattle.std.specs.Float.Ieee.{of_bits}
 use Rattle.fields.specs.Bolt.{stress_area}
 use Rattle.stability.specs.Anchors.{larger_pull, spacing_verdict, strength_verdict, wind_verdict}
 use Rattle.stability.specs.Earthquake.{uplift_of, quake_verdict}
 use Rattle.rules.specs.Hoop.{required_plate, course_verdict}
-use Rattle.rules.specs.Verdict.{holds, used}
+use Rattle.rules.specs.Verdict.{VerdictFor, holds, used}
 use Rattle.rules.specs.Words.{short_word, sound_word}
 use Rattle.stability.specs.declared.earthquake.Uplift.TheVariants.{Over}
 use Rattle.rules.specs.declared.method.Method.{Method}
@@ -40,6 +40,13 @@ line_with need tank course =
 -- a course whose bottom edge is at y, by a method
 unfoldable pub line_of : Method → Tank → ℕ → Course → CourseLine
 line_of method tank y course = line_with (need_on method tank y course) tank course
+
+-- So all of a line is of one need: the required plate is of it, and word and use are of the required plate.
+pub record LineFor (need : ℕ) (tank : Tank) (course : Course) (line : CourseLine) : Type 0 where
+  pub need_is : line.need ≡ need
+  pub required_is : line.required ≡ required_plate need course.allowance tank.diameter
+  pub plate_is : line.plate ≡ course.plate
+  pub verdict_is : VerdictFor line.required line.plate line.verdict
 
 -- courses from the bottom up, the first one's bottom edge at y
 abbrev pub lines_of : Method → Tank → ℕ → List Course → List CourseLine

@@ -3,17 +3,18 @@
 -- Assumes nothing.
 use mathlib.Core.Bool.{Bool, true, false, cond}
 use Prim.Native.Nat.{ℕ, ◌*◌, ◌≤◌}
-use native.Mathlib.Nat.{mul-le-mul, mul-pos}
+use native.Mathlib.Nat.{le_of_suc-le-suc, lt_of_mul-lt-mul_right, mul-le-mul}
 use native.Mathlib.Omega.{arith}
 use lib.Dec.{leb}
 use Rattle.exact.specs.Sides.{Sides}
 use Rattle.exact.proofs.QuotientLaws.{up_least}
 use Rattle.fields.specs.Range.{In}
 use Rattle.rules.specs.Bounds.{most_height, most_moment, most_need, most_pressure, most_required}
-use Rattle.rules.specs.Hoop.{head_of, design_head, hoop_exact, hoop_need, plate_floor, required_plate}
+use Rattle.rules.specs.Hoop.{head_of, design_head, hoop_exact, hoop_need, plate_margin, plate_floor, required_plate}
 use Rattle.rules.specs.Wind.{pressure_of, moment_of}
 use Rattle.rules.specs.declared.method.Method.{Method}
 use Rattle.rules.specs.declared.method.Method.TheVariants.{D100, Api650}
+use Rattle.rules.proofs.HoopLaws.{hoop_rounded}
 
 cond_most : (b : Bool) {x y most : ℕ} → x ≤ most → y ≤ most → cond b x y ≤ most
 cond_most true p q = p
@@ -24,10 +25,10 @@ unfolding plate_floor
 floor_most D = cond_most (leb D 60000) (omega arith) (cond_most (leb D 144000) (omega arith) (omega arith))
 
 pub need_most : (h D s E : ℕ) → h ≤ most_height → In 1 D → In 18 s → In 19 E → hoop_need h D s E ≤ most_need
-unfolding hoop_need hoop_exact
+unfolding hoop_exact plate_margin
 need_most h D s E a d b e =
-    up_least (13 * h * D) (72 * s * E) (mul-pos (omega arith) (omega arith)) most_need
-    (omega (arith, mul-le-mul a d.1, mul-le-mul b.0 e.0))
+    le_of_suc-le-suc (lt_of_mul-lt-mul_right (72 * s * E)
+    (omega (arith, (hoop_rounded h D s E (omega arith) (omega arith)).near, mul-le-mul a d.1, mul-le-mul b.0 e.0)))
 
 pub head_most : (H y : ℕ) → In 2 H → head_of H y ≤ most_height
 unfolding head_of

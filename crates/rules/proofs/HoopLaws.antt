@@ -1,14 +1,14 @@
--- The hoop need is on the safe side of its exact fraction and within its margin; a plate is at least the required one exactly when it
--- is at least the need with the allowance and at least the floor. And what a method takes of h.
+-- The hoop need is on the safe side of its exact fraction and within its margin, and no other multiple of 5 is; a plate is at least the
+-- required one exactly when it is at least the need with the allowance and at least the floor. And what a method takes of h.
 -- Assumes nothing.
 use mathlib.Core.List.{[], ◌∷◌, map}
 use mathlib.Core.Path.{◌≡◌, refl}
-use Prim.Native.Nat.{ℕ, ◌+◌, ◌≤◌, ◌<◌}
-use native.Mathlib.Nat.{mul-pos}
+use Prim.Native.Nat.{ℕ, ◌+◌, ◌*◌, ◌%◌, ◌≤◌, ◌<◌}
+use native.Mathlib.Nat.{mul-mod_right, mul-pos}
 use native.Mathlib.Omega.{arith}
-use Rattle.exact.specs.Quotient.{AtLeast}
-use Rattle.exact.proofs.QuotientLaws.{rounded_up}
-use Rattle.rules.specs.Hoop.{design_head, hoop_exact, hoop_need, plate_margin, plate_floor, required_plate}
+use Rattle.exact.specs.Quotient.{up_of, up_to, AtLeast}
+use Rattle.exact.proofs.QuotientLaws.{rounded_up_to, rounded_up_to_only}
+use Rattle.rules.specs.Hoop.{design_head, hoop_exact, mill_step, hoop_need, plate_margin, plate_floor, required_plate}
 use Rattle.rules.specs.declared.method.Method.TheVariants.{D100, Api650}
 
 -- what a method takes of h: D100 all of it; API 650 "(h - 1 ft)", and "zero when h is one foot or less"
@@ -24,6 +24,11 @@ pub first_foot : (h : ℕ) → h ≤ 1200 → design_head Api650 h ≡ 0
 unfolding design_head
 first_foot h l = omega arith
 
+-- the need where the exact one, h / 250, is 0 and just above it, and just below, at and just above 200
+pub needs_printed : map (λ (h : ℕ). hoop_need h 14400 13000 50) (0 ∷ 1 ∷ 49999 ∷ 50000 ∷ 50001 ∷ []) ≡ 0 ∷ 5 ∷ 200 ∷ 200 ∷ 205 ∷ []
+unfolding hoop_exact hoop_need up_to up_of
+needs_printed = refl
+
 -- the divisors are above 0
 pub hoop_den : (h D s E : ℕ) → 0 < s → 0 < E → 0 < (hoop_exact h D s E).den
 unfolding hoop_exact
@@ -35,12 +40,28 @@ plate_margin_den = omega arith
 
 pub hoop_rounded : (h D s E : ℕ) → 0 < s → 0 < E → AtLeast (hoop_exact h D s E) plate_margin (hoop_need h D s E)
 unfolding hoop_exact hoop_need plate_margin
-hoop_rounded h D s E p q = rounded_up (hoop_exact h D s E) (hoop_den h D s E p q)
+hoop_rounded h D s E p q =
+    let r = rounded_up_to mill_step (hoop_exact h D s E) (omega arith) (hoop_den h D s E p q) in
+    record { safe = omega (arith, r.safe); near = omega (arith, r.near) }
+
+-- the need is a multiple of 5, and no other one is so near
+pub hoop_in_steps : (h D s E : ℕ) → hoop_need h D s E % 5 ≡ 0
+unfolding hoop_need up_to
+hoop_in_steps h D s E = mul-mod_right 5 _
+
+pub hoop_only : (h D s E q : ℕ) → 0 < s → 0 < E → AtLeast (hoop_exact h D s E) plate_margin (5 * q) → 5 * q ≡ hoop_need h D s E
+unfolding hoop_exact hoop_need plate_margin
+hoop_only h D s E q p r a = rounded_up_to_only mill_step (hoop_exact h D s E) q (omega arith) (hoop_den h D s E p r) a
 
 -- the floor as document 01 has it, at either side of each step
 pub floors_printed : map plate_floor (60000 ∷ 60001 ∷ 144000 ∷ 144001 ∷ []) ≡ 188 ∷ 250 ∷ 250 ∷ 313 ∷ []
 unfolding plate_floor
 floors_printed = refl
+
+-- the need with c beside the floor, which is no multiple of 5, and past it
+pub required_printed : map (λ (c : ℕ). required_plate 150 c 60000) (0 ∷ 37 ∷ 38 ∷ 39 ∷ 41 ∷ []) ≡ 188 ∷ 188 ∷ 188 ∷ 189 ∷ 191 ∷ []
+unfolding required_plate plate_floor
+required_printed = refl
 
 pub required_meets : (need c D t : ℕ) → required_plate need c D ≤ t → (need + c ≤ t) × (plate_floor D ≤ t)
 unfolding required_plate

@@ -1,7 +1,7 @@
 -- Hoop thickness of a course: document 01, "The rules", Hoop (AWWA D100, t = 2.6 h D / (s E)), and document 02, S-3 (API 650,
--- t = 2.6 D (h - 1 ft) / (s E)). Plate in mils.
+-- t = 2.6 D (h - 1 ft) / (s E)) and S-7 (steps of five mils). Plate in mils.
 use Rattle.std.specs.Prelude.{cond, ℕ, ◌+◌, ◌-◌, ◌*◌, max, leb}
-use Rattle.exact.specs.Quotient.{Ratio, whole, up_of}
+use Rattle.exact.specs.Quotient.{Ratio, whole, up_to}
 use Rattle.rules.specs.Verdict.{verdict_of}
 use Rattle.rules.specs.declared.method.Method.{Method}
 use Rattle.rules.specs.declared.method.Method.TheVariants.{D100, Api650}
@@ -25,19 +25,24 @@ design_head Api650 h = h - foot
 unfoldable pub hoop_exact : ℕ → ℕ → ℕ → ℕ → Ratio
 hoop_exact h D s E = record { num = 13 * h * D; den = 72 * s * E }
 
--- rounded up
+-- "The mill now quotes in steps of 5", in mils
+abbrev pub mill_step : ℕ
+mill_step = 5
+
+-- "rounded up to a multiple of 5 before the allowance is added, for D100 and API 650"
 unfoldable pub hoop_need : ℕ → ℕ → ℕ → ℕ → ℕ
-hoop_need h D s E = let f = hoop_exact h D s E in up_of f.num f.den
+hoop_need h D s E = let f = hoop_exact h D s E in up_to mill_step f.num f.den
 
--- the margin of plate, 1: the rounded need is less than this above the exact one
+-- "The plate margin is five mils": the rounded need is less than this above the exact one
 unfoldable pub plate_margin : Ratio
-plate_margin = whole 1
+plate_margin = whole 5
 
--- The house floor, by the diameter.
+-- The house floor, by the diameter; "floors don't move".
 unfoldable pub plate_floor : ℕ → ℕ
 plate_floor D = cond (leb D 60000) 188 (cond (leb D 144000) 250 313)
 
--- The required plate: the need with the allowance c, or the floor, which has no allowance added, if that is larger.
+-- The required plate: the need with the allowance c, or the floor, which has no allowance added, if that is larger. It need be no multiple
+-- of 5.
 unfoldable pub required_plate : ℕ → ℕ → ℕ → ℕ
 required_plate need c D = max (need + c) (plate_floor D)
 

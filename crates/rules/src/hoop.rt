@@ -31,7 +31,11 @@ pub fn design_head(method: Method, h: u32) -> u32
     }
 }
 
-// The hoop need in mils, without the allowance; h as the method has it.
+// The mill's step, in mils.
+const STEP: u64 = 5;
+
+// The hoop need in mils, a multiple of the mill's step, without the allowance; h as the method has it.
+#[tactic(auto, using(crate::proofs::Bounds::need_most), unfolding(crate::specs::Hoop::hoop_need, crate::specs::Hoop::hoop_exact, exact::specs::Quotient::up_to))]
 pub fn need(h: u32, diameter: u32, stress: u32, efficiency: u32) -> u64
     requires h_le_most_height { h ≤ most_height }
     requires diameter_in { In 1 diameter }
@@ -41,7 +45,7 @@ pub fn need(h: u32, diameter: u32, stress: u32, efficiency: u32) -> u64
 {
     let num = 13 * h as u64 * diameter as u64;
     let den = 72 * stress as u64 * efficiency as u64;
-    exact::up(num, den)
+    STEP * exact::up(num, STEP * den)
 }
 
 // The least plate for a diameter.

@@ -28,7 +28,7 @@ pub(crate) fn answer<W: Write>(out: &mut W, leaf: u64, arguments: [u64; 4]) -> i
         21 => print::value(out, need(a, b, c, d)),
         22 => print::value(out, hoop::floor(figure(a))),
         23 => print::value(out, required(a, b, c)),
-        24 => print::verdict(out, hoop::check(a.min(6906), field(b, PLATE))),
+        24 => print::verdict(out, hoop::check(a.min(6910), field(b, PLATE))),
         25 => print::value(out, pressure(a, b, c)),
         26 => print::value(out, moment(a, b, c)),
         27 => print::answer(out, wind::standard_site(figure(a))),
@@ -66,7 +66,7 @@ fn need(h: u64, diameter: u64, stress: u64, efficiency: u64) -> u64 {
 
 fn required(need: u64, allowance: u64, diameter: u64) -> u64 {
     hoop::required(
-        need.min(6656),
+        need.min(6660),
         field(allowance, ALLOWANCE),
         figure(diameter),
     )

@@ -1,5 +1,5 @@
--- What document 01 prints, "The example tank": its text, with the earthquake pull of document 02, S-5, and that with its line for N = 0; and,
--- by its rule, refusals.
+-- What document 01 prints, "The example tank": its text, with the earthquake pull of document 02, S-5, and the needs of S-7, and that with
+-- its line for N = 0; that of the tank of S-3, on which the methods differ; and, by its rule, refusals.
 use Rattle.std.specs.Prelude.{List, [], ◌∷◌, ◌++◌, ℕ}
 use Rattle.fields.specs.declared.refusal.Refusal.{Refusal}
 use Rattle.fields.specs.declared.refusal.Refusal.TheVariants.{TooFewBytes, TooManyBytes, BadLength, BadVersion, BadCount, OutOfRange, AllowanceNotBelowPlate, BadAnchors, BufferTooShort, Unreachable, TankStated, NoTank, CoursesFull, ShellTooHigh, NoCourse, NoSite, WaterAboveShell, AnchorsUnstated, FigureOutOfRange, BadSiteClass, BadMethod, ShellUplift}
@@ -9,7 +9,7 @@ use Rattle.entries.specs.declared.sheet.Sheet.{Sheet}
 use Rattle.sheet.specs.Complete.{entries_of}
 use Rattle.sheet.specs.Writing.{bytes_of}
 use Rattle.layout.specs.Cases.{example_bytes}
-use Rattle.reports.specs.Cases.{example_with}
+use Rattle.reports.specs.Cases.{example_with, source002_with}
 
 pub record PrintedCase : Type 0 where
   pub bytes : List ℕ
@@ -23,11 +23,17 @@ abbrev pub sheet_bytes : Sheet → List ℕ
 sheet_bytes s = bytes_of (entries_of s)
 
 abbrev pub up_to_wind : List ℕ
-up_to_wind = ascii "course 1 59 188 250 ok\ncourse 2 40 188 250 ok\ncourse 3 20 188 250 ok\nwind 2123 73371\n"
+up_to_wind = ascii "course 1 60 188 250 ok\ncourse 2 40 188 250 ok\ncourse 3 20 188 250 ok\nwind 2123 73371\n"
+
+abbrev pub on_anchors : List ℕ
+on_anchors = ascii "pull 2133 -191\nanchors spacing ok strength ok\n"
 
 abbrev pub printed_cases : List PrintedCase
 printed_cases =
-    prints example_bytes (up_to_wind ++ ascii "pull 2133 -191\nanchors spacing ok strength ok\ntank sound\n")
+    prints example_bytes (up_to_wind ++ on_anchors ++ ascii "tank sound\n")
+    -- by D100; by API 650 its first course needs 50, which with c comes to just the floor, and the tank would be sound
+    ∷ prints (sheet_bytes (source002_with 188 138))
+    (ascii "course 1 55 193 188 short\ncourse 2 35 188 188 ok\ncourse 3 20 188 188 ok\nwind 2123 73371\n" ++ on_anchors ++ ascii "tank short\n")
     ∷ prints (sheet_bytes (example_with 105 30000 no_anchors)) (up_to_wind ++ ascii "self wind short resist 94646 none\ntank short\n")
     ∷ prints (sheet_bytes (example_with 59 30000 no_anchors)) (ascii "refused 16 7\n")
     ∷ prints [] (ascii "refused 11\n")
