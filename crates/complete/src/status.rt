@@ -6,10 +6,9 @@ ghost use Rattle.sheet.specs.Steps.{reachable};
 ghost use Rattle.sheet.specs.Complete.{completed_of, completed_code, sheet_code};
 ghost use Rattle.sheet.specs.Reading.{read_completed, bytes_code};
 
-use entries::Sheet;
+use entries::{Entries, Sheet};
 use fields::Refusal;
 use parts::slots;
-use sheet::complete::Entries;
 use sheet::reach;
 
 // The entries of this sheet. Refused: 30, 32, 35, 36, 38.

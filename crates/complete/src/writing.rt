@@ -6,9 +6,8 @@ ghost use Rattle.sheet.specs.Writing.{written, written_entries, write_code, writ
 ghost use Rattle.sheet.specs.Reading.{ReadsBack};
 
 use crate::status;
-use entries::Sheet;
+use entries::{Entries, Sheet};
 use fields::Refusal;
-use sheet::complete::Entries;
 
 // Fills the first 60 + 20 × n bytes, which are read as the same sheet, and gives that number. Refused: 30,
 // 32, 35, 36, 38, 19.

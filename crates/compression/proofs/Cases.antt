@@ -12,10 +12,10 @@ use Rattle.rules.specs.Method.{is_method}
 use Rattle.buckling.specs.Stress.{stress_exact, stress_of}
 use Rattle.buckling.specs.Coefficient.{argument_exact, argument_of, entry_at, coefficient_of}
 use Rattle.buckling.specs.Allowed.{local_buckling, allowed_exact, allowed_of}
-use Rattle.entries.specs.Sheet.{bad_anchors, tank_flaws, site_flaws, anchor_flaws, course_flaws}
+use Rattle.flaws.specs.Flaws.{bad_anchors, tank_flaws, site_flaws, anchor_flaws, course_flaws}
 use Rattle.parts.specs.Parts.{courses_clear, courses_blank, slots_reachable}
 use Rattle.sheet.specs.Steps.{reachable}
-use Rattle.reports.specs.Figures.{resistance_on}
+use Rattle.claims.specs.Figures.{resistance_on}
 use Rattle.compression.specs.Compression.{coefficient_on, stresses_of, shell_compression}
 use Rattle.compression.specs.Cases.{proved_cases, outcome, expected}
 

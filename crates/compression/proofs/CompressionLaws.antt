@@ -33,24 +33,25 @@ use Rattle.buckling.specs.Stress.{stress_of}
 use Rattle.buckling.proofs.StressLaws.{stress_rounded, stress_only}
 use Rattle.buckling.proofs.CoefficientLaws.{coefficient_safe}
 use Rattle.buckling.proofs.AllowedLaws.{allowed_rounded, allowed_only, allowed_below}
-use Rattle.entries.specs.Sheet.{blank_course, course_flaws}
+use Rattle.entries.specs.Sheet.{blank_course}
+use Rattle.flaws.specs.Flaws.{course_flaws}
 use Rattle.entries.specs.declared.sheet.Tank.{Tank}
 use Rattle.entries.specs.declared.sheet.Site.{Site}
 use Rattle.entries.specs.declared.sheet.Anchors.{Anchors}
 use Rattle.entries.specs.declared.sheet.Sheet.{Sheet}
-use Rattle.entries.proofs.FieldLaws.{CourseIn, course_in_lem, tank_in_lem}
+use Rattle.flaws.proofs.FieldLaws.{CourseIn, course_in_lem, tank_in_lem}
 use Rattle.parts.specs.Parts.{courses_clear}
 use Rattle.sheet.specs.Steps.{LeftByRun}
 use Rattle.sheet.specs.Complete.{incomplete, entries_of, entries_in, completed_of, Valid}
-use Rattle.sheet.specs.declared.complete.Entries.{Entries}
+use Rattle.entries.specs.declared.complete.Entries.{Entries}
 use Rattle.sheet.proofs.AnswerLaws.{never_answered, thirty_first}
 use Rattle.sheet.proofs.CompleteLaws.{entries_are, complete_is, valid}
-use Rattle.reports.specs.Figures.{resistance_on}
-use Rattle.reports.specs.Report.{report_of, standing_of, self_checks, anchor_checks}
-use Rattle.reports.specs.Judging.{water_above, judge_order, judged, judged_completed}
+use Rattle.claims.specs.Figures.{resistance_on}
+use Rattle.claims.specs.Report.{report_of, standing_of, self_checks, anchor_checks}
+use Rattle.claims.specs.Judging.{water_above, judge_order, judged, judged_completed}
 use Rattle.reports.specs.declared.report.Standing.TheVariants.{SelfAnchored, Anchored}
 use Rattle.reports.specs.declared.report.Judgement.{Judgement}
-use Rattle.reports.proofs.JudgeLaws.{judged_completed_lem, judged_answer, answer_first, accepted_entries, accepted_report}
+use Rattle.claims.proofs.JudgeLaws.{judged_completed_lem, judged_answer, answer_first, accepted_entries, accepted_report}
 use Rattle.compression.specs.Compression.{net_plate, self_anchored, lifts, shell_uplift, compression_order, coefficient_on, stresses_with, stresses_of, shell_compression, uplifted, unless_uplifted, no_stresses, compression_code, shell_compression_code, PrintedHelp, StressesJustified, ReplyJustified}
 use Rattle.compression.specs.declared.question.Stresses.{Stresses}
 

@@ -16,7 +16,7 @@ use Rattle.buckling.specs.Allowed.{local_buckling, allowed_exact}
 use Rattle.entries.specs.Sheet.{blank_course, no_anchors}
 use Rattle.entries.specs.declared.sheet.Anchors.{Anchors}
 use Rattle.entries.specs.declared.sheet.Course.{Course}
-use Rattle.sheet.specs.declared.complete.Entries.{Entries}
+use Rattle.entries.specs.declared.complete.Entries.{Entries}
 use Rattle.compression.specs.Compression.{PrintedHelp, ReplyJustified}
 use Rattle.compression.specs.declared.question.Stresses.{Stresses}
 

@@ -6,7 +6,7 @@ use Rattle.entries.specs.Sheet.{blank_course, no_anchors}
 use Rattle.entries.specs.declared.sheet.Anchors.{Anchors}
 use Rattle.entries.specs.declared.sheet.Course.{Course}
 use Rattle.entries.specs.declared.sheet.Sheet.{Sheet}
-use Rattle.reports.specs.Cases.{example, example_with, six_on}
+use Rattle.claims.specs.Cases.{example, example_with, six_on}
 use Rattle.compression.specs.Compression.{CompressionCode, no_stresses, shell_compression, compression_code}
 
 pub record Case : Type 0 where

@@ -19,9 +19,9 @@ use Rattle.entries.specs.declared.sheet.Tank.{Tank}
 use Rattle.entries.specs.declared.sheet.Anchors.{Anchors}
 use Rattle.entries.specs.declared.sheet.Sheet.{Sheet}
 use Rattle.sheet.specs.Complete.{entries_of}
-use Rattle.sheet.specs.declared.complete.Entries.{Entries}
-use Rattle.reports.specs.Figures.{resistance_on}
-use Rattle.reports.specs.Judging.{judge_order}
+use Rattle.entries.specs.declared.complete.Entries.{Entries}
+use Rattle.claims.specs.Figures.{resistance_on}
+use Rattle.claims.specs.Judging.{judge_order}
 use Rattle.reports.specs.declared.report.Standing.{Standing}
 use Rattle.reports.specs.declared.report.Standing.TheVariants.{SelfAnchored, Anchored}
 use Rattle.compression.specs.declared.question.Stresses.{Stresses}

@@ -7,11 +7,10 @@ ghost use Rattle.buckling.specs.Coefficient.{argument_of, coefficient_of};
 ghost use Rattle.compression.specs.Compression.{self_anchored, lifts, uplifted, stresses_of, unless_uplifted, shell_compression, compression_code, shell_compression_code, ReplyJustified};
 
 use buckling::{Shell, pressure, stress};
-use entries::{Anchors, Sheet};
+use entries::{Anchors, Entries, Sheet};
 use fields::Refusal;
 use judge::judging;
 use reports::report::Standing;
-use sheet::complete::Entries;
 use stability::earthquake::Uplift;
 
 // The longitudinal compression stress at the bottom of the shell and the allowed one, in psi; it holds when the stress
@@ -23,9 +22,8 @@ pub struct Stresses {
     pub holds: bool,
 }
 
-// The stresses at the bottom course of a sheet's tank, which do not depend on the method; it goes by its number, since
-// any is answered. Refused: as judging by the
-// method with this number is (30, 42, 32, 35, 36, 38, 37), then 43.
+// The stresses at the bottom course of a sheet's tank. They do not depend on the method, which is taken by its number, since
+// any number is answered. Refused: as judging by the method with this number is (30, 42, 32, 35, 36, 38, 37), then 43.
 pub fn shell_compression(method: u32, s: Sheet) -> Result<Stresses, Refusal>
     ensures value { result ≡ shell_compression method s }
     ensures code { compression_code result ≡ shell_compression_code method s }

@@ -6,7 +6,7 @@ use Prim.Native.Nat.{ℕ, ◌+◌, ◌≤◌, ◌<◌}
 use native.Mathlib.Numerals.{add-one}
 use native.Mathlib.Omega.{arith}
 use lib.ListN.{length, get_or, set, take, drop, take-append-drop}
-use lib.Seq.{take_all, take-suc, take-suc-set, take-take, get_or-take, length-take-le}
+use lib.Seq.{take-suc, take-suc-set, take-take, get_or-take, length-take-le}
 use Rattle.std.proofs.lemmas.List.Sums.{sum_by-append, sum_by-cons}
 use Rattle.entries.specs.Sheet.{blank_course, height_of}
 use Rattle.entries.specs.declared.sheet.Course.{Course}
@@ -29,10 +29,6 @@ take_set cs i c h = rw (add-one i) (take-suc-set cs i c h)
 
 pub height_set : (cs : List Course) (i : ℕ) (c : Course) → i < length cs → height_of (take (i + 1) (set cs i c)) ≡ height_of (take i cs) + c.width
 height_set cs i c h = ap height_of (take_set cs i c h) ∙ omega (arith, height_append (take i cs) (c ∷ []))
-
--- a count past the courses
-pub all_high : (cs : List Course) (n : ℕ) → length cs ≤ n → height_of (take n cs) ≡ height_of cs
-all_high cs n h = ap height_of (take_all n cs h)
 
 -- a course's top edge is no higher than the shell
 pub top_within : (cs : List Course) (i n : ℕ) → i < n → n ≤ length cs

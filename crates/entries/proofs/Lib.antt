@@ -1,3 +1,2 @@
 -- The laws that callers' proofs cite.
 pub mod CourseLaws
-pub mod FieldLaws

@@ -1,8 +1,8 @@
-// What a check sheet is made of: its entries and the sheet that holds them, and what the figures of a step are
-// refused for. Nothing here knows bytes, steps or rules.
+// What a check sheet is made of: its entries and the sheet that holds them. Nothing here knows bytes, steps or rules.
 #![tactic(auto)]
 
-pub mod flaws;
+mod complete;
 mod sheet;
 
+pub use complete::Entries;
 pub use sheet::{Anchors, Course, Entry, MOST_COURSES, MOST_HEIGHT, Sheet, Site, Tank};

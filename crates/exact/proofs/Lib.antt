@@ -3,7 +3,6 @@ pub mod QuotientLaws
 pub mod SignedLaws
 pub mod GreatestLaws
 pub mod RootLaws
-pub mod WideLaws
 pub mod RatioLaws
 pub mod FloatLaws
 pub mod FractionLaws

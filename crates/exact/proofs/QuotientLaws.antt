@@ -1,8 +1,8 @@
 -- The laws of the rounded quotients, stated once over the numerator and the divisor.
 -- Assumes nothing.
 use mathlib.Core.Path.{◌≡◌, sym, ap, ◌∙◌}
-use Prim.Native.Nat.{ℕ, ◌+◌, ◌-◌, ◌*◌, ◌/◌, ◌%◌, ◌≤◌, ◌<◌}
-use native.Mathlib.Nat.{div-add-mod', div-div-eq-div-mul, div-mul-le_self, lt-div-mul-add, le-div_iff_mul-le, div-eq_of_lt-le, div-lt_iff_lt-mul, le-mul_of_pos_right, le_of_mul-le-mul_right, le_of_suc-le-suc, le_trans, lt_of_mul-lt-mul_right, mod-lt, mul_comm, mul-div-mul_right, mul-le-mul, mul-le-mul_right, mul-lt-mul_of_pos_right, mul-pos, suc-mul}
+use Prim.Native.Nat.{ℕ, ◌+◌, ◌-◌, ◌*◌, ◌/◌, ◌≤◌, ◌<◌}
+use native.Mathlib.Nat.{div-div-eq-div-mul, div-mul-le_self, lt-div-mul-add, le-div_iff_mul-le, div-eq_of_lt-le, div-lt_iff_lt-mul, le_of_mul-le-mul_right, le_of_suc-le-suc, le_trans, lt_of_mul-lt-mul_right, mul_comm, mul-div-mul_right, mul-le-mul, mul-le-mul_right, mul-lt-mul_of_pos_right, mul-pos, suc-mul}
 use native.Mathlib.Omega.{arith}
 use Rattle.std.specs.Int.{div_ceil}
 use Rattle.std.proofs.lemmas.Grind.{div_ceil_times}
@@ -37,26 +37,13 @@ module _ (n d : ℕ) (h : 0 < d) where
   unfolding up_of
   up_unique q l m = sym (div-eq_of_lt-le d (omega arith) (omega arith))
 
-  -- by the remainder: the quotient rounded down where there is none, or else one more
-  pub up_divides : n % d ≡ 0 → down_of n d ≡ up_of n d
-  up_divides e = up_unique (down_of n d) (omega (arith, div-add-mod' n d)) (omega (arith, div-add-mod' n d))
-
-  pub up_leaves : 0 < n % d → down_of n d + 1 ≡ up_of n d
-  up_leaves l = up_unique (down_of n d + 1) (omega (arith, div-add-mod' n d, mod-lt n h)) (omega (arith, div-add-mod' n d))
-
-  pub up_within : 0 < n % d → down_of n d + 1 ≤ n
-  up_within l = omega (arith, div-add-mod' n d, le-mul_of_pos_right (n / d) h)
-
-  -- and it is the library's quotient rounded up
+  -- it is the library's quotient rounded up
   pub div_ceil_is : div_ceil n d ≡ up_of n d
   div_ceil_is = up_unique (div_ceil n d) (div_ceil_times n d h).0 (div_ceil_times n d h).1
 
 -- A quotient by a product is that by one factor after another, with the same rounding.
 pub down_down : (n a b : ℕ) → down_of (down_of n a) b ≡ down_of n (a * b)
 down_down n a b = div-div-eq-div-mul n a b
-
-pub down_thrice : (n a b c : ℕ) → down_of (down_of (down_of n a) b) c ≡ down_of n (a * b * c)
-down_thrice n a b c = ap (λ (x : ℕ). down_of x c) (down_down n a b) ∙ down_down n (a * b) c
 
 pub up_up : (n a b : ℕ) → 0 < a → 0 < b → up_of (up_of n a) b ≡ up_of n (a * b)
 up_up n a b h k =

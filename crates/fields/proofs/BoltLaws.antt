@@ -1,13 +1,12 @@
--- A size that is in the chart has a stress area above 0, any other 0, and no size has more than 2,500.
+-- A size that is in the chart has a stress area above 0, and no size has more than 2,500.
 -- Assumes nothing.
-use mathlib.Core.Path.{◌≡◌, refl, sym, ap, subst}
-use mathlib.Core.Bool.{Bool, true, false, not, cond, ◌&&◌, ◌||◌}
+use mathlib.Core.Path.{◌≡◌, ap}
+use mathlib.Core.Bool.{Bool, true, false, cond, ◌&&◌, ◌||◌}
 use mathlib.Core.List.{List, [], ◌∷◌}
 use Prim.Native.Nat.{ℕ, ◌≤◌, ◌<◌}
 use native.Mathlib.Omega.{arith}
 use lib.Dec.{T, leb, ltb, eqb, leb→le, ltb→lt}
 use mir.Facts.{and_yes}
-use borrow.Author.Tests.{eq-eqb, ne_eqb}
 use Rattle.std.specs.Prelude.{Option, Some, None, SomeIff}
 use Rattle.fields.specs.Bolt.{Bolt, chart, area_in, size_in, in_chart, stress_area}
 
@@ -27,14 +26,6 @@ above (b ∷ bs) d s t = go (eqb d b.size) t (above bs d (and_yes (fair b) (all_
     go true t r = ltb→lt 0 b.area (and_yes (ltb 0 b.area) (leb b.area 2500) (and_yes (fair b) (all_fair bs) s).0).0
     go false t r = r t
 
-none : (bs : List Bolt) (d : ℕ) → size_in bs d ≡ false → area_in bs d ≡ 0
-none [] d e = refl
-none (b ∷ bs) d e = go (eqb d b.size) e (none bs d)
-  where
-    go : (t : Bool) → (t || size_in bs d) ≡ false → (size_in bs d ≡ false → area_in bs d ≡ 0) → cond t b.area (area_in bs d) ≡ 0
-    go true e r = absurd (subst T e tt)
-    go false e r = r e
-
 most : (bs : List Bolt) (d : ℕ) → T (all_fair bs) → area_in bs d ≤ 2500
 most [] d s = omega arith
 most (b ∷ bs) d s = go (eqb d b.size) (most bs d (and_yes (fair b) (all_fair bs) s).1)
@@ -46,15 +37,6 @@ most (b ∷ bs) d s = go (eqb d b.size) (most bs d (and_yes (fair b) (all_fair b
 pub stress_area_above : (d : ℕ) → T (in_chart d) → 0 < stress_area d
 unfolding in_chart stress_area
 stress_area_above d t = above chart d tt t
-
--- so the area tells whether the size is in the chart
-pub stress_area_none : (d : ℕ) → eqb (stress_area d) 0 ≡ not (in_chart d)
-unfolding in_chart stress_area
-stress_area_none d = go (size_in chart d) refl
-  where
-    go : (b : Bool) → size_in chart d ≡ b → eqb (area_in chart d) 0 ≡ not b
-    go true e = ne_eqb (area_in chart d) 0 (λ z. omega (arith, above chart d tt (subst T (sym e) tt), z))
-    go false e = eq-eqb (area_in chart d) 0 (none chart d e)
 
 pub stress_area_most : (d : ℕ) → stress_area d ≤ 2500
 unfolding stress_area

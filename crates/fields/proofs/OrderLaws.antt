@@ -158,6 +158,10 @@ module _ {A : Type 0} (v : A) where
   reply_refused (Ok u) r = (λ e. clash (sym e), λ e. clash (sym e))
   reply_refused (Err q) r = (λ e. ap Err cc, λ e. ap Err cc)
 
+  pub reply_given : (a : Answer) {w : A} → reply_unless a v ≡ Ok w → (a ≡ Ok tt) × (w ≡ v)
+  reply_given (Ok u) {w} e = (refl, let k : v ≡ w = cc in sym k)
+  reply_given (Err r) e = clash e
+
   given_as : (a : Answer) → (reply_unless a v ≡ Ok v) ↔ (a ≡ Ok tt)
   given_as (Ok u) = (λ e. refl, λ e. refl)
   given_as (Err r) = (clash, clash)

@@ -30,6 +30,7 @@ pub fn zeros<const N: usize>() -> [u8; N]
 
 // Reads until the buffer is full, the input ends or a read fails. One read does not do: a pipe hands its bytes out in
 // pieces, whose sizes no range counts. Whether a read fails is the reader's; the bytes are its next ones, and all that it gave.
+// Behind them the buffer may hold anything, since a reader may use all the room that it is lent.
 pub fn read_full<R: Read>(input: &mut R, buf: &mut [u8]) -> Filled
     ensures within { result.count ≤ length buf.new }
     ensures bytes { Consumes (R.remaining input.old) (R.remaining input.new) (take result.count buf.new) }

@@ -2,15 +2,15 @@
 ghost use Rattle.std.specs.Prelude.{◌≡◌, T};
 ghost use Rattle.lists.specs.Pad.{padded};
 ghost use Rattle.fields.specs.Order.{clear};
-ghost use Rattle.entries.specs.Sheet.{tank_flaws, course_flaws};
+ghost use Rattle.flaws.specs.Flaws.{tank_flaws, course_flaws};
 ghost use Rattle.sheet.specs.Complete.{courses_of, Valid};
-ghost use Rattle.reports.specs.Report.{line_of, lines_of, blank_line, courses_hold};
+ghost use Rattle.reports.specs.Blank.{blank_line};
+ghost use Rattle.claims.specs.Report.{line_of, lines_of, courses_hold};
 
-use entries::{Course, MOST_COURSES, Tank};
+use entries::{Course, Entries, MOST_COURSES, Tank};
 use reports::report::CourseLine;
 use rules::hoop;
 use rules::method::Method;
-use sheet::complete::Entries;
 
 // The line of a course whose bottom edge is at this height.
 fn line(method: Method, tank: Tank, edge: u32, c: Course) -> CourseLine
@@ -48,7 +48,7 @@ pub(crate) fn lines(method: Method, e: &Entries) -> [CourseLine; 12]
 }
 
 // Whether these courses hold.
-#[tactic(auto, unfolding(reports::specs::Report::courses_hold))]
+#[tactic(auto, unfolding(claims::specs::Report::courses_hold))]
 pub(crate) fn all_hold(lines: &[CourseLine]) -> bool
     ensures { result ≡ courses_hold lines.now }
 {

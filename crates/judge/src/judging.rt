@@ -3,17 +3,16 @@ ghost use Rattle.std.specs.Prelude.{◌≡◌, [], ◌∷◌};
 ghost use Rattle.std.specs.Result.{ForOk};
 ghost use Rattle.fields.specs.Order.{answer_code};
 ghost use Rattle.sheet.specs.Complete.{entries_of, entries_in, courses_of, Valid};
-ghost use Rattle.reports.specs.Report.{word_of};
-ghost use Rattle.reports.specs.Judging.{judged, judged_completed, report_for, report_by, report_with, completed_judge_code, judge_code};
-ghost use Rattle.reports.specs.Meets.{JustifiedBy};
+ghost use Rattle.claims.specs.Report.{word_of};
+ghost use Rattle.claims.specs.Judging.{judged, judged_completed, report_for, report_by, report_with, completed_judge_code, judge_code};
+ghost use Rattle.claims.specs.Meets.{JustifiedBy};
 
 use crate::{courses, standing};
-use entries::Sheet;
+use entries::{Entries, Sheet};
 use fields::Refusal;
 use reports::report::{CourseLine, Judgement, Report, Standing, Word};
 use rules::method::Method;
 use rules::wind;
-use sheet::complete::Entries;
 
 // The report on a sheet by the method with this number, 1 for D100 and 2 for API 650 (a number, since any is answered);
 // exact fractions bear out its word. Refused: 30, 42, 32, 35, 36, 38, 37.
@@ -104,7 +103,7 @@ fn report(method: Method, e: Entries) -> Report
 }
 
 // Sound when every course and both rules of its way of standing hold.
-#[tactic(auto, unfolding(reports::specs::Report::word_of))]
+#[tactic(auto, unfolding(claims::specs::Report::word_of))]
 fn word(lines: &[CourseLine], standing: Standing) -> Word
     ensures { result ≡ word_of lines.now standing }
 {

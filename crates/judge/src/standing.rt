@@ -3,11 +3,11 @@
 ghost use Rattle.std.specs.Prelude.{◌≡◌, ◌≤◌, ◌<◌};
 ghost use Rattle.rules.specs.Bounds.{most_moment};
 ghost use Rattle.sheet.specs.Complete.{Valid};
-ghost use Rattle.reports.specs.Figures.{resistance_on};
-ghost use Rattle.reports.specs.Report.{self_checks, anchor_checks, standing_of, checks_of, stands, uses_of};
+ghost use Rattle.claims.specs.Figures.{resistance_on};
+ghost use Rattle.claims.specs.Report.{self_checks, anchor_checks, standing_of, checks_of, stands, uses_of};
 
+use entries::Entries;
 use reports::report::{AnchorChecks, Checks, SelfChecks, Standing, Uses};
-use sheet::complete::Entries;
 use stability::anchors::DeadWeight;
 use stability::{anchors, earthquake};
 

@@ -9,13 +9,13 @@ use lib.ListN.{length, get_or, take, drop, take-append-drop, length-drop}
 use lib.Seq.{drop-drop, take-add, take_all, drop-cons}
 use Rattle.fields.proofs.RangeLaws.{within_most}
 use Rattle.fields.specs.Order.{Figure, values}
-use Rattle.entries.specs.Sheet.{tank_figures, site_figures, anchor_figures, course_figures}
+use Rattle.entries.specs.Sheet.{tank_figures, site_figures, anchor_figures, course_figures, tank_with, site_with, anchors_with, course_with}
 use Rattle.entries.specs.declared.sheet.Tank.{Tank}
 use Rattle.entries.specs.declared.sheet.Site.{Site}
 use Rattle.entries.specs.declared.sheet.Anchors.{Anchors}
 use Rattle.entries.specs.declared.sheet.Course.{Course}
-use Rattle.entries.proofs.FieldLaws.{Pass}
-use Rattle.layout.specs.Numbers.{AllBytes, two, fours, two_in}
+use Rattle.flaws.proofs.FieldLaws.{Pass}
+use Rattle.layout.specs.Numbers.{AllBytes, two, fours, two_in, four_in, figures_from}
 use Rattle.layout.specs.Layout.{version1, tail_length, body_length, prefix_of, tail_head, courses_figures, tail_of, layout}
 use Rattle.layout.specs.Header.{tank_in, site_in, anchors_in, course_in, courses_in, tail_in, Header}
 use Rattle.layout.proofs.NumberLaws.{fours_append, four_back, two_back, back_two, bytes_drop, figures_back}
@@ -96,32 +96,15 @@ pub small_of : (fs : List Figure) → Pass fs → Small (values fs)
 small_of [] p = tt
 small_of (f ∷ fs) p = (omega (arith, within_most f.field f.value p.0), small_of fs p.1)
 
--- a record is its fields
-same_tank : (t : Tank) {d l w p c f : ℕ} → d ≡ t.diameter → l ≡ t.level → w ≡ t.weight → p ≡ t.plate → c ≡ t.allowance → f ≡ t.fy
-    → record { diameter = d; level = l; weight = w; plate = p; allowance = c; fy = f } ≡ t
-same_tank t e1 e2 e3 e4 e5 e6 = rw (e1, e2, e3, e4, e5, e6)
+-- figures that are laid out are read again
+pub figures_read : (xs : List ℕ) (i : ℕ) (b c : List ℕ) → drop i b ≡ fours xs ++ c → Small xs → figures_from i (length xs) b ≡ xs
+figures_read [] i b c e h = refl
+figures_read (x ∷ xs) i b c e h =
+    ap (λ (y : ℕ). y ∷ figures_from (i + 4) (length xs) b) (ap four_in e ∙ four_back x (fours xs ++ c) h.0)
+    ∙ ap (λ (ys : List ℕ). x ∷ ys) (figures_read xs (i + 4) b c (sym (drop-drop 4 i b) ∙ ap (λ (l : List ℕ). drop 4 l) e) h.1)
 
-same_site : (x : Site) {w k i v m : ℕ} → w ≡ x.speed → k ≡ x.exposure → i ≡ x.importance → v ≡ x.vertical → m ≡ x.moment
-    → record { speed = w; exposure = k; importance = i; vertical = v; moment = m } ≡ x
-same_site x e1 e2 e3 e4 e5 = rw (e1, e2, e3, e4, e5)
-
-same_anchors : (a : Anchors) {n b d : ℕ} → n ≡ a.number → b ≡ a.circle → d ≡ a.size → record { number = n; circle = b; size = d } ≡ a
-same_anchors a e1 e2 e3 = rw (e1, e2, e3)
-
-same_course : (c : Course) {w t a s e : ℕ} → w ≡ c.width → t ≡ c.plate → a ≡ c.allowance → s ≡ c.stress → e ≡ c.efficiency
-    → record { width = w; plate = t; allowance = a; stress = s; efficiency = e } ≡ c
-same_course c e1 e2 e3 e4 e5 = rw (e1, e2, e3, e4, e5)
-
--- the courses come back
 course_back : (c : Course) (b : List ℕ) → Small (course_figures c) → course_in (fours (course_figures c) ++ b) ≡ c
-course_back c b h =
-    let l = fours (course_figures c) ++ b in
-    same_course c
-    (four_back c.width (drop 4 l) h.0)
-    (four_back c.plate (drop 8 l) h.1.0)
-    (four_back c.allowance (drop 12 l) h.1.1.0)
-    (four_back c.stress (drop 16 l) h.1.1.1.0)
-    (four_back c.efficiency (drop 20 l) h.1.1.1.1.0)
+course_back c b h = ap course_with (figures_read (course_figures c) 0 (fours (course_figures c) ++ b) b refl h)
 
 pub data SmallCourses : List Course → Type 0 where
   none : SmallCourses []
@@ -141,21 +124,11 @@ module _ (x : Site) (a : Anchors) (cs : List Course) where
 
   pub site_back : Small (site_figures x) → site_in tail_laid ≡ x
   unfolding tail_head
-  site_back h =
-      same_site x
-      (four_back x.speed (drop 4 tail_laid) h.0)
-      (four_back x.exposure (drop 8 tail_laid) h.1.0)
-      (four_back x.importance (drop 12 tail_laid) h.1.1.0)
-      (four_back x.vertical (drop 16 tail_laid) h.1.1.1.0)
-      (four_back x.moment (drop 20 tail_laid) h.1.1.1.1.0)
+  site_back h = ap site_with (figures_read (site_figures x) 0 tail_laid (drop 20 tail_laid) refl h)
 
   pub anchors_back : Small (anchor_figures a) → anchors_in (drop 20 tail_laid) ≡ a
   unfolding tail_head
-  anchors_back h =
-      same_anchors a
-      (four_back a.number (drop 24 tail_laid) h.0)
-      (four_back a.circle (drop 28 tail_laid) h.1.0)
-      (four_back a.size (drop 32 tail_laid) h.1.1.0)
+  anchors_back h = ap anchors_with (figures_read (anchor_figures a) 0 (drop 20 tail_laid) (drop 32 tail_laid) refl h)
 
   courses_laid : drop 33 tail_laid ≡ fours (courses_figures cs)
   unfolding tail_head
@@ -171,14 +144,7 @@ module _ (t : Tank) (x : Site) (a : Anchors) (cs : List Course) where
 
   pub tank_back : Small (tank_figures t) → tank_in (drop 3 laid) ≡ t
   unfolding prefix_of
-  tank_back h =
-      same_tank t
-      (four_back t.diameter (drop 7 laid) h.0)
-      (four_back t.level (drop 11 laid) h.1.0)
-      (four_back t.weight (drop 15 laid) h.1.1.0)
-      (four_back t.plate (drop 19 laid) h.1.1.1.0)
-      (four_back t.allowance (drop 23 laid) h.1.1.1.1.0)
-      (four_back t.fy (drop 27 laid) h.1.1.1.1.1.0)
+  tank_back h = ap tank_with (figures_read (tank_figures t) 0 (drop 3 laid) (tail_of x a cs) refl h)
 
   pub tail_back : tail_in version1 laid ≡ tail_of x a cs
   unfolding prefix_of

@@ -2,21 +2,21 @@
 -- Assumes nothing.
 use Rattle.std.specs.Prelude.{Ok, Err}
 use mathlib.Core.Path.{◌≡◌, refl, sym, ap, ◌∙◌, subst}
-use mathlib.Core.Bool.{true, false, not}
-use mathlib.Core.List.{List, [], ◌∷◌}
+use mathlib.Core.Bool.{true, false}
+use mathlib.Core.List.{List, ◌∷◌}
 use mathlib.Core.Logic.{◌↔◌}
 use Prim.Native.Nat.{ℕ, suc, ◌+◌, ◌*◌, ◌-◌, ◌≤◌, ◌<◌}
 use native.Mathlib.Omega.{arith}
-use lib.Dec.{T, leb, ltb, eqb}
+use lib.Dec.{T, leb, eqb}
 use lib.ListN.{length, get_or, take, drop, length-drop}
 use lib.Seq.{get_or-drop, drop-drop, take_all}
 use mir.Facts.{leb_yes, eqb_yes, yes_leb, yes_eqb}
 use borrow.Author.Tests.{lt-ltb, le-ltb, ne_eqb, eq-eqb, ltb-false, not-false, eqb-true}
-use Rattle.fields.specs.declared.refusal.Refusal.TheVariants.{TooFewBytes, TooManyBytes, BadLength, BadVersion, BadCount}
-use Rattle.fields.specs.Order.{◌when◌, first_of}
-use Rattle.fields.proofs.OrderLaws.{first_cons}
+use Rattle.fields.specs.declared.refusal.Refusal.TheVariants.{TooManyBytes, BadLength, BadCount}
+use Rattle.fields.specs.Order.{first_of}
+use Rattle.fields.proofs.OrderLaws.{none_exactly}
 use Rattle.layout.specs.Numbers.{two_in}
-use Rattle.layout.specs.Layout.{version1, tail_length, body_length}
+use Rattle.layout.specs.Layout.{version1, body_length}
 use Rattle.layout.specs.Header.{course_in, courses_in, tail_in, count_of, is_length, read_order, Header}
 use Rattle.lists.proofs.BoolLaws.{T_true, three_yes, yes_three}
 
@@ -52,25 +52,16 @@ length_least L e = let l = (length_exactly L).0 (subst T (sym e) tt) in omega (a
 
 module _ (b : List ℕ) (L : ℕ) (e : two_in b ≡ L) where
   -- the tests of the order, one after the other
-  pub under_two : length b < 2 → Err TooFewBytes ≡ first_of (read_order version1 b)
-  under_two h = rw (lt-ltb _ _ h)
-
   module _ (h : 2 ≤ length b) where
     pub no_length : is_length version1 L ≡ false → Err BadLength ≡ first_of (read_order version1 b)
     no_length k = rw (le-ltb _ _ h, e, k)
 
     module _ (k : is_length version1 L ≡ true) where
-      pub too_few : length b < 2 + L → Err TooFewBytes ≡ first_of (read_order version1 b)
-      too_few l = rw (le-ltb _ _ h, e, k, lt-ltb _ _ l)
-
       module _ (l : 2 + L ≤ length b) where
         pub too_many : 2 + L < length b → Err TooManyBytes ≡ first_of (read_order version1 b)
         too_many m = rw (le-ltb _ _ h, e, k, le-ltb _ _ l, lt-ltb _ _ m)
 
         module _ (m : length b ≤ 2 + L) where
-          pub no_version : (get_or b 2 0 ≡ 1 → ⊥) → Err BadVersion ≡ first_of (read_order version1 b)
-          no_version v = rw (le-ltb _ _ h, e, k, le-ltb _ _ l, le-ltb _ _ m, ne_eqb _ _ v)
-
           module _ (v : get_or b 2 0 ≡ 1) where
             pub no_count : (get_or b 59 0 ≡ count_of version1 L → ⊥) → Err BadCount ≡ first_of (read_order version1 b)
             no_count n = rw (le-ltb _ _ h, e, k, le-ltb _ _ l, le-ltb _ _ m, v, get_or-drop 27 b 32 0, ne_eqb _ _ n)
@@ -81,40 +72,19 @@ module _ (b : List ℕ) (L : ℕ) (e : two_in b ≡ L) where
 -- bytes that come to the steps
 pub header : (b : List ℕ) → first_of (read_order version1 b) ≡ Ok tt → Header b
 header b e =
-    let c1 = TooFewBytes when ltb (length b) 2 in
-    let c2 = BadLength when not (is_length version1 (two_in b)) in
-    let c3 = TooFewBytes when ltb (length b) (2 + two_in b) in
-    let c4 = TooManyBytes when ltb (2 + two_in b) (length b) in
-    let c5 = BadVersion when not (eqb (get_or b 2 0) 1) in
-    let c6 = BadCount when not (eqb (get_or (tail_in version1 b) 32 0) (count_of version1 (two_in b))) in
-    let f1 = first_cons c1 (c2 ∷ c3 ∷ c4 ∷ c5 ∷ c6 ∷ []) e in
-    let f2 = first_cons c2 (c3 ∷ c4 ∷ c5 ∷ c6 ∷ []) f1.1 in
-    let f3 = first_cons c3 (c4 ∷ c5 ∷ c6 ∷ []) f2.1 in
-    let f4 = first_cons c4 (c5 ∷ c6 ∷ []) f3.1 in
-    let f5 = first_cons c5 (c6 ∷ []) f4.1 in
-    let f6 = first_cons c6 [] f5.1 in
-    let l = (length_exactly (two_in b)).0 (subst T (sym (not-false (is_length version1 (two_in b)) f2.0)) tt) in
-    let lo = ltb-false (length b) (2 + two_in b) f3.0 in
-    let hi = ltb-false (2 + two_in b) (length b) f4.0 in
+    let no = (none_exactly (read_order version1 b)).0 e in
+    let l = (length_exactly (two_in b)).0 (subst T (sym (not-false (is_length version1 (two_in b)) (no 1 (omega arith)))) tt) in
+    let lo = ltb-false (length b) (2 + two_in b) (no 2 (omega arith)) in
+    let hi = ltb-false (2 + two_in b) (length b) (no 3 (omega arith)) in
     record {
       n = l.n;
       some = l.some;
       few = l.few;
       whole = omega (arith, l.is, lo, hi);
       body = l.is;
-      version = eqb-true (get_or b 2 0) 1 (not-false (eqb (get_or b 2 0) 1) f5.0);
-      count = eqb-true (get_or (tail_in version1 b) 32 0) (count_of version1 (two_in b)) (not-false (eqb (get_or (tail_in version1 b) 32 0) (count_of version1 (two_in b))) f6.0) ∙ ap (count_of version1) l.is ∙ count_of_length l.n;
+      version = eqb-true (get_or b 2 0) 1 (not-false (eqb (get_or b 2 0) 1) (no 4 (omega arith)));
+      count = eqb-true (get_or (tail_in version1 b) 32 0) (count_of version1 (two_in b)) (not-false (eqb (get_or (tail_in version1 b) 32 0) (count_of version1 (two_in b))) (no 5 (omega arith))) ∙ ap (count_of version1) l.is ∙ count_of_length l.n;
     }
-
--- their tail has all the courses
-pub record Tail (n : ℕ) (tail : List ℕ) : Type 0 where
-  pub few : n ≤ 12
-  pub all : tail_length n ≤ length tail
-
-pub header_tail : (b : List ℕ) → Header b → Tail (count_of version1 (two_in b)) (tail_in version1 b)
-header_tail b h =
-    let e : count_of version1 (two_in b) ≡ h.n = ap (count_of version1) h.body ∙ count_of_length h.n in
-    record { few = omega (arith, e, h.few); all = omega (arith, e, h.whole, length-drop 27 b) }
 
 -- and back
 pub headed : (b : List ℕ) → Header b → first_of (read_order version1 b) ≡ Ok tt

@@ -5,9 +5,9 @@ use mathlib.Core.List.{List, [], ◌∷◌, ◌++◌}
 use Prim.Native.Nat.{ℕ, ◌+◌, ◌*◌, ◌≤◌, ◌<◌}
 use native.Mathlib.Numerals.{add-one}
 use native.Mathlib.Omega.{arith}
-use lib.ListN.{length, get_or, take, drop, set, length-append, length-set}
-use lib.Seq.{sets, length-sets, take-suc, length-take-le}
-use Rattle.lists.proofs.SetsLaws.{sets_append, sets_long, all_stored}
+use lib.ListN.{length, get_or, take, drop, set, length-append}
+use lib.Seq.{sets, take-suc, length-take-le}
+use Rattle.lists.proofs.SetsLaws.{sets_append, all_stored}
 use Rattle.entries.specs.Sheet.{tank_figures, site_figures, anchor_figures, course_figures, blank_course}
 use Rattle.entries.specs.declared.sheet.Tank.{Tank}
 use Rattle.entries.specs.declared.sheet.Site.{Site}
@@ -46,10 +46,6 @@ layout_length t x a cs =
 
 -- length and version, and then the tank
 module _ (n : ℕ) (t : Tank) (l : List ℕ) {o f : List ℕ} (e : o ≡ sets (sets l 0 (two (58 + 20 * n) ++ (1 ∷ []))) 3 (fours f)) (k : f ≡ tank_figures t) where
-  pub prefix_long : length o ≡ length l
-  prefix_long =
-      sets_long (sets l 0 (two (58 + 20 * n) ++ (1 ∷ []))) (fours f) 3 e ∙ length-sets l 0 (two (58 + 20 * n) ++ (1 ∷ []))
-
   pub prefix_stored : o ≡ sets l 0 (prefix_of version1 n t)
   unfolding prefix_of
   prefix_stored =
@@ -59,9 +55,6 @@ module _ (n : ℕ) (t : Tank) (l : List ℕ) {o f : List ℕ} (e : o ≡ sets (s
 -- site and anchors, and then n
 module _ (x : Site) (a : Anchors) (n : ℕ) (l : List ℕ) (at : ℕ) {p f q g : List ℕ}
     (i : p ≡ sets l at (fours f)) (j : f ≡ site_figures x) (k : q ≡ sets p (at + 20) (fours g)) (m : g ≡ anchor_figures a) where
-  pub head_long : length (set q (at + 32) n) ≡ length l
-  head_long = length-set q (at + 32) n ∙ sets_long p (fours g) (at + 20) k ∙ sets_long l (fours f) at i
-
   pub head_stored : set q (at + 32) n ≡ sets l at (tail_head x a n)
   unfolding tail_head
   head_stored =

@@ -7,43 +7,22 @@ use Rattle.entries.specs.declared.sheet.Tank.{Tank}
 use Rattle.entries.specs.declared.sheet.Site.{Site}
 use Rattle.entries.specs.declared.sheet.Anchors.{Anchors}
 use Rattle.entries.specs.declared.sheet.Course.{Course}
-use Rattle.layout.specs.Numbers.{two_in, four_in}
+use Rattle.entries.specs.Sheet.{tank_with, site_with, anchors_with, course_with}
+use Rattle.layout.specs.Numbers.{two_in, figures_in}
 use Rattle.layout.specs.Layout.{Version, version1, body_length, whole_length}
 
--- The figures at the start of these bytes.
+-- The entry whose figures are the first of these bytes.
 abbrev pub tank_in : List ℕ → Tank
-tank_in b =
-    record {
-      diameter = four_in b;
-      level = four_in (drop 4 b);
-      weight = four_in (drop 8 b);
-      plate = four_in (drop 12 b);
-      allowance = four_in (drop 16 b);
-      fy = four_in (drop 20 b);
-    }
+tank_in b = tank_with (figures_in 6 b)
 
 abbrev pub site_in : List ℕ → Site
-site_in b =
-    record {
-      speed = four_in b;
-      exposure = four_in (drop 4 b);
-      importance = four_in (drop 8 b);
-      vertical = four_in (drop 12 b);
-      moment = four_in (drop 16 b);
-    }
+site_in b = site_with (figures_in 5 b)
 
 abbrev pub anchors_in : List ℕ → Anchors
-anchors_in b = record { number = four_in b; circle = four_in (drop 4 b); size = four_in (drop 8 b) }
+anchors_in b = anchors_with (figures_in 3 b)
 
 abbrev pub course_in : List ℕ → Course
-course_in b =
-    record {
-      width = four_in b;
-      plate = four_in (drop 4 b);
-      allowance = four_in (drop 8 b);
-      stress = four_in (drop 12 b);
-      efficiency = four_in (drop 16 b);
-    }
+course_in b = course_with (figures_in 5 b)
 
 abbrev pub courses_in : ℕ → List ℕ → List Course
 courses_in zero b = []

@@ -22,7 +22,7 @@ two_in b = 256 * get_or b 0 0 + get_or b 1 0
 unfoldable pub four_in : List ℕ → ℕ
 four_in b = 16777216 * get_or b 0 0 + 65536 * get_or b 1 0 + 256 * get_or b 2 0 + get_or b 3 0
 
--- the first n numbers of four bytes
+-- n numbers of four bytes, from place i on; and from the start
 abbrev pub figures_from : ℕ → ℕ → List ℕ → List ℕ
 figures_from i zero b = []
 figures_from i (suc n) b = four_in (drop i b) ∷ figures_from (i + 4) n b

@@ -1,4 +1,4 @@
--- The laws of lines and of texts.
+-- The laws of lines and of texts; and two lines to the letter.
 -- Assumes nothing.
 use mathlib.Core.Path.{◌≡◌, refl, sym, ap, ◌∙◌}
 use mathlib.Core.List.{List, [], ◌∷◌, ◌++◌, append_assoc, append-nil}
@@ -8,8 +8,14 @@ use native.Mathlib.Nat.{add-zero}
 use lib.ListN.{length, get_or, take}
 use lib.Seq.{length-take-le}
 use Rattle.std.proofs.lemmas.List.{take_more}
+use lib.Ieee.{Float}
+use lib.IntN.{ℤ}
+use Rattle.lists.specs.Ascii.{ascii}
+use Rattle.rules.specs.declared.verdict.Verdict.TheVariants.{Holds, Short}
+use Rattle.stability.specs.declared.earthquake.Uplift.TheVariants.{Lift}
 use Rattle.reports.specs.declared.report.CourseLine.{CourseLine}
-use Rattle.lines.specs.Text.{Line, line, text, course_line, course_lines}
+use Rattle.words.specs.Decimal.{decimal}
+use Rattle.lines.specs.Text.{Line, line, text, course_line, course_lines, anchor_line, self_line}
 use Rattle.words.specs.Stored.{Appends}
 use Rattle.words.specs.declared.store.Text.{Text}
 use Rattle.words.proofs.StoreLaws.{then}
@@ -45,3 +51,14 @@ pub courses_more : {m n : ℕ} {a b t : Text} (cs : List CourseLine) (i : ℕ) (
     → Appends m a (text (course_lines 1 (take i cs))) b → Appends n b (line (course_line (i + 1) (get_or cs i d))) t
     → Appends (m + n) a (text (course_lines 1 (take (i + 1) cs))) t
 courses_more cs i d h f g = rw (more_lines cs i d h) (then f g)
+
+-- Where document 01's example does not tell which verdict is printed: both of its anchors' checks hold.
+pub anchors_printed : (wind quake : ℤ) (first second : Float)
+    → line (anchor_line (record { wind_pull = wind; quake_pull = quake; spacing = Short first; strength = Holds second }))
+    ≡ ascii "anchors spacing short strength ok\n"
+anchors_printed wind quake first second = refl
+
+pub self_printed : (first second : Float)
+    → line (self_line (record { wind = Holds first; resistance = 1; uplift = Lift; quake = Short second })) ≡ ascii "self wind ok resist 1 lift\n"
+unfolding decimal
+self_printed first second = refl

@@ -18,9 +18,9 @@ use Rattle.fields.proofs.RefusalLaws.{never_zero}
 use Rattle.lists.specs.Ascii.{ascii}
 use Rattle.fields.specs.Order.{Answer, answer_code}
 use Rattle.rules.specs.declared.method.Method.{Method}
-use Rattle.sheet.specs.declared.complete.Entries.{Entries}
-use Rattle.reports.specs.Meets.{Justified}
-use Rattle.reports.specs.Report.{tank_word}
+use Rattle.entries.specs.declared.complete.Entries.{Entries}
+use Rattle.claims.specs.Meets.{Justified}
+use Rattle.reports.specs.Words.{tank_word}
 use Rattle.reports.specs.declared.report.Judgement.{Judgement}
 use Rattle.reports.specs.declared.report.Report.{Report}
 use Rattle.reports.specs.declared.report.Word.{Word}

@@ -4,8 +4,8 @@ use Rattle.lists.specs.Ascii.{ascii}
 use Rattle.fields.specs.Refusal.{plain}
 use Rattle.fields.specs.Order.{answer_code}
 use Rattle.rules.specs.declared.method.Method.{Method}
-use Rattle.sheet.specs.declared.complete.Entries.{Entries}
-use Rattle.reports.specs.Meets.{no_margins, MeetsWith, margins_of}
+use Rattle.entries.specs.declared.complete.Entries.{Entries}
+use Rattle.claims.specs.Meets.{no_margins, MeetsWith, margins_of}
 use Rattle.reports.specs.declared.report.Judgement.{Judgement}
 use Rattle.lines.specs.Text.{text_of}
 

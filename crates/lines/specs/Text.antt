@@ -6,7 +6,7 @@ use Rattle.fields.specs.declared.refusal.Code.{Code}
 use Rattle.stability.specs.Earthquake.{uplift_word}
 use Rattle.rules.specs.Verdict.{verdict_word}
 use Rattle.lists.specs.Ascii.{ascii}
-use Rattle.reports.specs.Report.{tank_word}
+use Rattle.reports.specs.Words.{tank_word}
 use Rattle.reports.specs.declared.report.CourseLine.{CourseLine}
 use Rattle.reports.specs.declared.report.SelfChecks.{SelfChecks}
 use Rattle.reports.specs.declared.report.AnchorChecks.{AnchorChecks}

@@ -3,4 +3,3 @@ pub mod BoolLaws
 pub mod EachLaws
 pub mod PadLaws
 pub mod SetsLaws
-pub mod PlaceLaws

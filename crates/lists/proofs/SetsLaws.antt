@@ -6,7 +6,7 @@ use Prim.Native.Nat.{ℕ, suc, ◌+◌, ◌≤◌}
 use native.Mathlib.Nat.{add-zero}
 use native.Mathlib.Omega.{arith}
 use lib.ListN.{length, take, drop, set}
-use lib.Seq.{sets, length-sets, sets-eq, drop-drop}
+use lib.Seq.{sets, sets-eq, drop-drop}
 use borrow.Rule.Slice.PartMut.{put_mid}
 
 -- one part after the other
@@ -15,10 +15,6 @@ sets_append [] ys l i = ap (λ (k : ℕ). sets l k ys) (sym (add-zero i))
 sets_append (x ∷ xs) ys l i =
     let e : suc i + length xs ≡ i + suc (length xs) = omega arith in
     sets_append xs ys (set l i x) (suc i) ∙ ap (λ (k : ℕ). sets (sets (set l i x) (suc i) xs) k ys) e
-
--- no store changes the length
-pub sets_long : (l vs : List ℕ) (i : ℕ) {o : List ℕ} → o ≡ sets l i vs → length o ≡ length l
-sets_long l vs i e = ap length e ∙ length-sets l i vs
 
 -- from the start: what is stored, and the rest as it was
 pub all_stored : (l vs : List ℕ) → length vs ≤ length l → sets l 0 vs ≡ vs ++ drop (length vs) l

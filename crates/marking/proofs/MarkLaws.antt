@@ -15,15 +15,15 @@ use Rattle.rules.specs.declared.method.Method.TheVariants.{D100}
 use Rattle.entries.specs.declared.sheet.Sheet.{Sheet}
 use Rattle.std.specs.Result.{ForOk}
 use Rattle.sheet.specs.Complete.{entries_of, Valid}
-use Rattle.sheet.specs.declared.complete.Entries.{Entries}
+use Rattle.entries.specs.declared.complete.Entries.{Entries}
 use Rattle.sheet.specs.Reading.{read_in, read_code, unless_code, completed_from, read_completed}
 use Rattle.sheet.proofs.AnswerLaws.{read_code_lem}
 use Rattle.sheet.proofs.CompleteLaws.{entries_are, completed_valid}
-use Rattle.reports.specs.Judging.{judge_order, unless_refused, judged, judged_completed}
-use Rattle.reports.specs.Meets.{Justified}
+use Rattle.claims.specs.Judging.{judge_order, unless_refused, judged, judged_completed}
+use Rattle.claims.specs.Meets.{Justified}
 use Rattle.reports.specs.declared.report.Judgement.{Judgement}
-use Rattle.reports.proofs.JudgeLaws.{judged_exactly, judged_completed_lem, judged_refused}
-use Rattle.reports.proofs.ClaimLaws.{completed_justified, judge_code_lem}
+use Rattle.claims.proofs.JudgeLaws.{judged_exactly, judged_completed_lem, judged_refused}
+use Rattle.claims.proofs.ClaimLaws.{completed_justified, judge_code_lem}
 use Rattle.marking.specs.Marking.{marked, mark_code}
 
 -- ---- what it comes to

@@ -5,7 +5,7 @@ use Rattle.fields.specs.declared.refusal.Code.{Code}
 use Rattle.rules.specs.Method.{method_number}
 use Rattle.rules.specs.declared.method.Method.TheVariants.{D100}
 use Rattle.sheet.specs.Reading.{read_in, read_code, unless_code}
-use Rattle.reports.specs.Judging.{unless_refused, judged, judge_code}
+use Rattle.claims.specs.Judging.{unless_refused, judged, judge_code}
 use Rattle.reports.specs.declared.report.Judgement.{Judgement}
 
 unfoldable pub marked : List ℕ → Judgement

@@ -4,7 +4,7 @@ ghost use Rattle.fields.specs.Order.{answer_code};
 ghost use Rattle.rules.specs.declared.method.Method.TheVariants.{D100};
 ghost use Rattle.sheet.specs.Complete.{entries_of};
 ghost use Rattle.sheet.specs.Reading.{read_in};
-ghost use Rattle.reports.specs.Meets.{Justified};
+ghost use Rattle.claims.specs.Meets.{Justified};
 ghost use Rattle.marking.specs.Marking.{marked, mark_code};
 
 use judge::judging;

@@ -1,10 +1,11 @@
 -- What the test for 30 asks of a sheet's parts: tank, site, anchors and each course have no flaw, the shell is not too high, and the
 -- slots past the count are blank. Before the tank nothing else can have been stated. (`sheet`'s `left_exactly`: the sheets that pass
 -- are exactly those that a run of steps leaves.)
-use Rattle.std.specs.Prelude.{Bool, true, false, ◌&&◌, List, ℕ, leb, eqb, length, take, drop, Option, Some, None}
+use Rattle.std.specs.Prelude.{Bool, true, ◌&&◌, List, ℕ, leb, eqb, length, take, drop, Option, Some, None, is_none}
 use Rattle.std.specs.List.{list_all}
 use Rattle.fields.specs.Order.{clear}
-use Rattle.entries.specs.Sheet.{height_of, tank_flaws, site_flaws, anchor_flaws, course_flaws, course_figures}
+use Rattle.entries.specs.Sheet.{height_of, course_figures}
+use Rattle.flaws.specs.Flaws.{tank_flaws, site_flaws, anchor_flaws, course_flaws}
 use Rattle.entries.specs.declared.sheet.Tank.{Tank}
 use Rattle.entries.specs.declared.sheet.Site.{Site}
 use Rattle.entries.specs.declared.sheet.Anchors.{Anchors}
@@ -13,17 +14,9 @@ use Rattle.entries.specs.declared.sheet.Course.{Course}
 abbrev pub blank : List ℕ → Bool
 blank xs = list_all (λ x. eqb x 0) xs
 
-abbrev pub site_blank : Option Site → Bool
-site_blank None = true
-site_blank (Some x) = false
-
 abbrev pub site_clear : Option Site → Bool
 site_clear None = true
 site_clear (Some x) = clear (site_flaws x)
-
-abbrev pub anchors_blank : Option Anchors → Bool
-anchors_blank None = true
-anchors_blank (Some a) = false
 
 -- on a tank of diameter D
 abbrev pub anchors_clear : ℕ → Option Anchors → Bool
@@ -46,5 +39,5 @@ slots_reachable cs n =
     && courses_blank (drop n cs)
 
 abbrev pub parts_reachable : Option Tank → Option Site → Option Anchors → ℕ → Bool
-parts_reachable None x a n = site_blank x && anchors_blank a && eqb n 0
+parts_reachable None x a n = is_none x && is_none a && eqb n 0
 parts_reachable (Some t) x a n = clear (tank_flaws t) && site_clear x && anchors_clear t.diameter a

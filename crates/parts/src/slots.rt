@@ -1,10 +1,11 @@
 // The twelve slots for courses: those that are used, and those that are not.
 ghost use Rattle.std.specs.Prelude.{◌≡◌, ◌≤◌, length, take, drop};
 ghost use Rattle.fields.specs.Order.{clear};
-ghost use Rattle.entries.specs.Sheet.{height_of, course_flaws, course_figures};
+ghost use Rattle.entries.specs.Sheet.{height_of, course_figures};
+ghost use Rattle.flaws.specs.Flaws.{course_flaws};
 ghost use Rattle.parts.specs.Parts.{blank, courses_clear, courses_blank, slots_reachable};
 
-use entries::{Course, MOST_COURSES, MOST_HEIGHT, flaws};
+use entries::{Course, MOST_COURSES, MOST_HEIGHT};
 
 // Whether the first n slots can be courses that were added in turn, and the others were never used. An array and a
 // count, as a sheet has them: there is no heap.

@@ -1,10 +1,10 @@
 // Tank, site and anchors beside a number of courses.
 ghost use Rattle.std.specs.Prelude.{◌≡◌};
 ghost use Rattle.fields.specs.Order.{clear};
-ghost use Rattle.entries.specs.Sheet.{tank_flaws};
+ghost use Rattle.flaws.specs.Flaws.{tank_flaws};
 ghost use Rattle.parts.specs.Parts.{site_clear, anchors_clear, parts_reachable};
 
-use entries::{Anchors, Site, Tank, flaws};
+use entries::{Anchors, Site, Tank};
 
 // Whether tank, site and anchors can stand beside n courses. Before the tank no other step is accepted.
 pub fn parts_reachable(

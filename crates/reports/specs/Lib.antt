@@ -1,6 +1,2 @@
-pub mod Figures
-pub mod Report
-pub mod Judging
-pub mod Meets
-pub mod Cases
-pub mod Pinned
+pub mod Words
+pub mod Blank

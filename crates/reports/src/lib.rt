@@ -1,5 +1,5 @@
-// What a report is, and what is promised of it: the definitions of judging, the exact rules, and the laws that lead
-// from a report's word to them. The functions that judge are in `judge`.
+// What a report is: its types, the word that a tank is called, and what is held where there is nothing to say. Which report a
+// sheet gets, and what is claimed of it, is in `claims`.
 #![tactic(auto)]
 
 pub mod report;

@@ -2,7 +2,8 @@
 // lines print, and the uses).
 ghost use Rattle.std.specs.Prelude.{◌≡◌, Some};
 ghost use Rattle.std.specs.Fmt.{styled_text};
-ghost use Rattle.reports.specs.Report.{tank_word, blank_line, blank_report};
+ghost use Rattle.reports.specs.Words.{tank_word};
+ghost use Rattle.reports.specs.Blank.{blank_line, blank_report};
 
 use fields::Refusal;
 use rules::verdict::Verdict;

@@ -41,8 +41,8 @@ plate_margin = whole 5
 unfoldable pub plate_floor : ℕ → ℕ
 plate_floor D = cond (leb D 60000) 188 (cond (leb D 144000) 250 313)
 
--- The required plate: the need with the allowance c, or the floor, which has no allowance added, if that is larger. It need be no multiple
--- of 5.
+-- The required plate: the need with the allowance c, or the floor, which has no allowance added, if that is larger. It need not be a
+-- multiple of 5.
 unfoldable pub required_plate : ℕ → ℕ → ℕ → ℕ
 required_plate need c D = max (need + c) (plate_floor D)
 

@@ -19,7 +19,8 @@ use Rattle.fields.specs.declared.refusal.Refusal.TheVariants.{Unreachable}
 use Rattle.fields.proofs.RefusalLaws.{never_zero}
 use Rattle.fields.specs.Order.{Answer, Condition, first_of, reply_unless, First, answer_code, first_code, codes, sixteen}
 use Rattle.fields.proofs.OrderLaws.{clash, first_exactly, first_code_lem}
-use Rattle.entries.specs.Sheet.{empty_sheet, tank_flaws, site_flaws, anchor_flaws, course_flaws}
+use Rattle.entries.specs.Sheet.{empty_sheet}
+use Rattle.flaws.specs.Flaws.{tank_flaws, site_flaws, anchor_flaws, course_flaws}
 use Rattle.sheet.specs.Steps.{order_of, applied, anchors_after, LeftByRun, reachable, unreachable, stated, unless, in_turn}
 use Rattle.sheet.specs.declared.steps.Step.{Step}
 use Rattle.sheet.specs.declared.steps.Step.TheVariants.{StateTank, StateSite, StateAnchors, AddCourse}
@@ -31,7 +32,7 @@ use Rattle.entries.specs.declared.sheet.Site.{Site}
 use Rattle.entries.specs.declared.sheet.Anchors.{Anchors}
 use Rattle.entries.specs.declared.sheet.Course.{Course}
 use Rattle.entries.specs.declared.sheet.Sheet.{Sheet}
-use Rattle.sheet.specs.declared.complete.Entries.{Entries}
+use Rattle.entries.specs.declared.complete.Entries.{Entries}
 use Rattle.sheet.specs.declared.reading.Reading.{Reading}
 use Rattle.sheet.specs.declared.steps.Reply.{Reply}
 use Rattle.std.specs.List.{list_all}

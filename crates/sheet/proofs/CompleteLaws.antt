@@ -1,7 +1,7 @@
 -- The laws of what judging and writing ask of a sheet first: what the answer comes to, what a complete sheet holds, and the orders that go
 -- on from there.
 -- Assumes nothing.
-use Rattle.std.specs.Prelude.{Option, Some, None, Result, Ok, Err}
+use Rattle.std.specs.Prelude.{Option, Some, None, is_none, Result, Ok, Err}
 use Rattle.std.specs.Result.{result_and}
 use mathlib.Core.Path.{◌≡◌, refl, sym, ap, ◌∙◌, subst}
 use mathlib.Core.Bool.{Bool, true, false, not, cond}
@@ -16,18 +16,18 @@ use Rattle.fields.specs.declared.refusal.Refusal.{Refusal}
 use Rattle.fields.specs.declared.refusal.Refusal.TheVariants.{Unreachable, NoTank, NoCourse, NoSite, AnchorsUnstated}
 use Rattle.fields.proofs.RefusalLaws.{never_zero}
 use Rattle.fields.specs.Order.{Answer, Condition, ◌when◌, first_of, reply_unless, clear, answer_code, first_code}
-use Rattle.fields.proofs.OrderLaws.{clash, first_cons, first_then, first_code_lem}
-use Rattle.entries.specs.Sheet.{tank_of, site_of, anchors_of, tank_flaws, site_flaws, anchor_flaws}
+use Rattle.fields.proofs.OrderLaws.{clash, reply_given, none_exactly, first_cons, first_then, first_code_lem}
+use Rattle.flaws.specs.Flaws.{tank_of, site_of, anchors_of, tank_flaws, site_flaws, anchor_flaws}
 use Rattle.entries.specs.declared.sheet.Tank.{Tank}
 use Rattle.entries.specs.declared.sheet.Site.{Site}
 use Rattle.entries.specs.declared.sheet.Anchors.{Anchors}
 use Rattle.entries.specs.declared.sheet.Sheet.{Sheet}
-use Rattle.entries.proofs.FieldLaws.{blank_flawed}
-use Rattle.parts.specs.Parts.{site_blank, site_clear, anchors_blank, anchors_clear}
-use Rattle.sheet.specs.Steps.{tank_blank, reachable, unreachable}
+use Rattle.flaws.proofs.FieldLaws.{blank_flawed}
+use Rattle.parts.specs.Parts.{site_clear, anchors_clear}
+use Rattle.sheet.specs.Steps.{reachable, unreachable}
 use Rattle.sheet.specs.Complete.{incomplete, complete_order, entries_of, courses_of, completed_of, completed_code, code_with, sheet_code, is_thirty, order_after, Valid}
-use Rattle.sheet.specs.declared.complete.Entries.{Entries}
-use Rattle.sheet.proofs.ReachLaws.{reach_slots, parts_held, tank_held, site_held, anchors_held}
+use Rattle.entries.specs.declared.complete.Entries.{Entries}
+use Rattle.sheet.proofs.ReachLaws.{reach_slots, parts_held, held_some}
 
 -- ---- what the answer comes to
 
@@ -38,11 +38,7 @@ IsComplete s = completed_of s ≡ Ok (entries_of s)
 -- where some are, no condition applies, and they are the sheet's
 pub given : (s : Sheet) {e : Entries} → completed_of s ≡ Ok e → (first_of (complete_order s [] []) ≡ Ok tt) × (e ≡ entries_of s)
 unfolding completed_of
-given s {e} q = go (first_of (complete_order s [] [])) q
-  where
-    go : (a : Answer) → reply_unless a (entries_of s) ≡ Ok e → (a ≡ Ok tt) × (e ≡ entries_of s)
-    go (Ok u) q = (refl, let k : entries_of s ≡ e = cc in sym k)
-    go (Err r) q = clash q
+given s q = reply_given (entries_of s) (first_of (complete_order s [] [])) q
 
 pub complete_held : (s : Sheet) → reachable s ≡ true → (t : Tank) → s.tank ≡ Some t → (s.count ≡ 0 → ⊥) → (x : Site) → s.site ≡ Some x
     → (a : Anchors) → s.anchors ≡ Some a → IsComplete s
@@ -56,7 +52,7 @@ not_thirty Unreachable h = absurd (h refl)
 not_thirty _ h = refl
 
 none_thirty : (s : Sheet) (r : Refusal) → first_of (incomplete s) ≡ Err r → is_thirty r ≡ false
-none_thirty s r e = go (tank_blank s.tank) (eqb s.count 0) (site_blank s.site) (anchors_blank s.anchors) e
+none_thirty s r e = go (is_none s.tank) (eqb s.count 0) (is_none s.site) (is_none s.anchors) e
   where
     by : (q : Refusal) → is_thirty q ≡ false → q ≡ r → is_thirty r ≡ false
     by q h e = subst (λ (p : Refusal). is_thirty p ≡ false) e h
@@ -101,21 +97,16 @@ module _ (s : Sheet) (o : IsComplete s) where
 
   pub complete_sheet : CompleteSheet s
   complete_sheet =
-      let unstated = AnchorsUnstated when anchors_blank s.anchors in
-      let no_site = NoSite when site_blank s.site in
-      let noCourse = NoCourse when eqb s.count 0 in
-      let a = first_cons (NoTank when tank_blank s.tank) (noCourse ∷ no_site ∷ unstated ∷ []) passed.1 in
-      let b = first_cons noCourse (no_site ∷ unstated ∷ []) a.1 in
-      let c = first_cons no_site (unstated ∷ []) b.1 in
-      let t = tank_held s.tank a.0 in
-      let x = site_held s.site c.0 in
-      let y = anchors_held s.anchors (first_cons unstated [] c.1).0 in
+      let no = (none_exactly (incomplete s)).0 passed.1 in
+      let t = held_some s.tank (no 0 (omega arith)) in
+      let x = held_some s.site (no 2 (omega arith)) in
+      let y = held_some s.anchors (no 3 (omega arith)) in
       record {
         reach = subst T (sym (not-false (reachable s) passed.0)) tt;
         tank = t.is ∙ ap Some (ap tank_of (sym t.is));
         site = x.is ∙ ap Some (ap site_of (sym x.is));
         anchors = y.is ∙ ap Some (ap anchors_of (sym y.is));
-        course = eqb-false s.count 0 b.0;
+        course = eqb-false s.count 0 (no 1 (omega arith));
       }
 
   pub valid : Valid (entries_of s)

@@ -4,7 +4,7 @@
 use Rattle.entries.specs.declared.sheet.Tank.{Tank}
 use Rattle.entries.specs.declared.sheet.Site.{Site}
 use Rattle.entries.specs.declared.sheet.Anchors.{Anchors}
-use Rattle.std.specs.Prelude.{Option, Some, None, Ok, Err}
+use Rattle.std.specs.Prelude.{Option, Some, None, is_none, Ok, Err}
 use mathlib.Core.Path.{◌≡◌, refl, sym, ◌∙◌, subst}
 use mathlib.Core.Bool.{Bool, true, false, not, ◌&&◌}
 use mathlib.Core.List.{List, [], ◌∷◌, ◌++◌}
@@ -16,13 +16,14 @@ use lib.ListN.{length, get_or, take, drop, set, length-set}
 use Rattle.std.proofs.lemmas.List.Folds.{list_all-append}
 use lib.Seq.{drop-set-lt, drop-cons}
 use mir.Facts.{and_yes, yes_and, leb_yes, yes_leb, eqb_yes, yes_eqb}
-use borrow.Author.Tests.{leb-false, ltb-false}
+use borrow.Author.Tests.{not-false, leb-false, ltb-false}
 use Rattle.fields.specs.declared.refusal.Refusal.TheVariants.{TankStated, NoTank, CoursesFull}
 use Rattle.fields.specs.Order.{Answer, ◌when◌, first_of, clear}
 use Rattle.fields.proofs.OrderLaws.{clash, accepted_clear, first_cons, first_append}
-use Rattle.entries.specs.Sheet.{too_high, course_figures, blank_course, empty_sheet, held, height_of, tank_flaws, site_flaws, anchor_flaws, course_flaws, tank_of}
-use Rattle.parts.specs.Parts.{blank, site_blank, site_clear, anchors_blank, anchors_clear, courses_clear, courses_blank, slots_reachable, parts_reachable}
-use Rattle.sheet.specs.Steps.{tank_blank, order_of, filled, replied, applied, run, reachable}
+use Rattle.entries.specs.Sheet.{course_figures, blank_course, empty_sheet, held, height_of}
+use Rattle.flaws.specs.Flaws.{too_high, tank_flaws, site_flaws, anchor_flaws, course_flaws, tank_of}
+use Rattle.parts.specs.Parts.{blank, site_clear, anchors_clear, courses_clear, courses_blank, slots_reachable, parts_reachable}
+use Rattle.sheet.specs.Steps.{order_of, filled, replied, applied, run, reachable}
 use Rattle.sheet.specs.declared.steps.Step.{Step}
 use Rattle.sheet.specs.declared.steps.Step.TheVariants.{StateTank, StateSite, StateAnchors, AddCourse}
 use Rattle.entries.specs.declared.sheet.Course.{Course}
@@ -76,14 +77,18 @@ module _ (s : Sheet) where
 
 -- ---- every step keeps it
 
--- a site and anchors that are not stated
-pub site_blank_lem : (x : Option Site) → T (site_blank x) → x ≡ None
-site_blank_lem None h = refl
-site_blank_lem (Some x) h = absurd h
+-- an entry that is not stated; and one that is
+pub none_stated : {A : Type 0} (e : Option A) → T (is_none e) → e ≡ None
+none_stated None h = refl
+none_stated (Some x) h = absurd h
 
-pub anchors_blank_lem : (a : Option Anchors) → T (anchors_blank a) → a ≡ None
-anchors_blank_lem None h = refl
-anchors_blank_lem (Some a) h = absurd h
+pub record Held {A : Type 0} (e : Option A) : Type 0 where
+  pub entry : A
+  pub is : e ≡ Some entry
+
+pub held_some : {A : Type 0} (e : Option A) → is_none e ≡ false → Held e
+held_some None h = absurd (subst T h tt)
+held_some (Some x) h = record { entry = x; is = refl }
 
 -- one course more
 course_slots : (cs : List Course) (n : ℕ) (c : Course) → Slots cs n → n < 12 → T (clear (course_flaws c))
@@ -100,38 +105,36 @@ course_slots cs n c s h k l =
       rest = rw (add-one n, drop-set-lt (suc n) cs n c (omega arith)) (and_yes (blank (course_figures (get_or cs n blank_course))) (courses_blank (drop (suc n) cs)) (rw (drop-cons cs n blank_course (omega (arith, s.twelve))) at s.rest)).1;
     }
 
--- what the first condition of an order says of the tank
-tank_entry_blank : (e : Option Tank) → not (tank_blank e) ≡ false → e ≡ None
-tank_entry_blank None h = refl
-tank_entry_blank (Some t) h = absurd (subst T h tt)
+-- what an accepted course says
+record CourseTaken (s : Sheet) (c : Course) : Type 0 where
+  tank : is_none s.tank ≡ false
+  room : s.count < 12
+  clear : T (clear (course_flaws c))
+  low : height_of (held s) + c.width ≤ 76800
 
--- an entry that is filled in, and so no longer blank
-pub record Held {E A : Type 0} (fill : A → E) (e : E) : Type 0 where
-  pub entry : A
-  pub is : e ≡ fill entry
-
-pub tank_held : (e : Option Tank) → tank_blank e ≡ false → Held Some e
-tank_held None h = absurd (subst T h tt)
-tank_held (Some t) h = record { entry = t; is = refl }
-
-pub site_held : (e : Option Site) → site_blank e ≡ false → Held Some e
-site_held None h = absurd (subst T h tt)
-site_held (Some x) h = record { entry = x; is = refl }
-
-pub anchors_held : (e : Option Anchors) → anchors_blank e ≡ false → Held Some e
-anchors_held None h = absurd (subst T h tt)
-anchors_held (Some a) h = record { entry = a; is = refl }
+course_taken : (s : Sheet) (c : Course) → first_of (order_of s (AddCourse c)) ≡ Ok tt → CourseTaken s c
+course_taken s c e =
+    let high = too_high (height_of (held s)) c in
+    let o = first_cons (NoTank when is_none s.tank) ((CoursesFull when leb 12 s.count) ∷ (course_flaws c ++ high ∷ [])) e in
+    let f = first_cons (CoursesFull when leb 12 s.count) (course_flaws c ++ high ∷ []) o.1 in
+    let g = first_append (course_flaws c) (high ∷ []) f.1 in
+    record {
+      tank = o.0;
+      room = leb-false 12 s.count f.0;
+      clear = accepted_clear (course_flaws c) g.0;
+      low = ltb-false 76800 (height_of (held s) + c.width) (first_cons high [] g.1).0;
+    }
 
 module _ (s : Sheet) (h : T (reachable s)) where
   parts : T (parts_reachable s.tank s.site s.anchors s.count)
   parts = (reach_halves s h).1
 
-  pub parts_held : (d : Held Some s.tank) → T (clear (tank_flaws d.entry)) × T (site_clear s.site) × T (anchors_clear d.entry.diameter s.anchors)
+  pub parts_held : (d : Held s.tank) → T (clear (tank_flaws d.entry)) × T (site_clear s.site) × T (anchors_clear d.entry.diameter s.anchors)
   parts_held d =
       three_yes (clear (tank_flaws d.entry)) (site_clear s.site) (anchors_clear d.entry.diameter s.anchors)
       (subst (λ (e : Option Tank). T (parts_reachable e s.site s.anchors s.count)) d.is parts)
 
-  held_parts : (d : Held Some s.tank) (x : Option Site) (a : Option Anchors) (n : ℕ) → T (site_clear x) → T (anchors_clear d.entry.diameter a)
+  held_parts : (d : Held s.tank) (x : Option Site) (a : Option Anchors) (n : ℕ) → T (site_clear x) → T (anchors_clear d.entry.diameter a)
       → T (parts_reachable s.tank x a n)
   held_parts d x a n y z =
       subst (λ (e : Option Tank). T (parts_reachable e x a n)) (sym d.is)
@@ -139,33 +142,30 @@ module _ (s : Sheet) (h : T (reachable s)) where
 
   pub filled_reachable : (x : Step) → first_of (order_of s x) ≡ Ok tt → T (reachable (filled s x))
   filled_reachable (StateTank t) e =
-      let o = first_cons (TankStated when not (tank_blank s.tank)) (tank_flaws t) e in
-      let b = three_yes (site_blank s.site) (anchors_blank s.anchors) (eqb s.count 0)
-      (subst (λ (e : Option Tank). T (parts_reachable e s.site s.anchors s.count)) (tank_entry_blank s.tank o.0) parts) in
+      let o = first_cons (TankStated when not (is_none s.tank)) (tank_flaws t) e in
+      let b = three_yes (is_none s.site) (is_none s.anchors) (eqb s.count 0)
+      (subst (λ (e : Option Tank). T (parts_reachable e s.site s.anchors s.count)) (none_stated s.tank (subst T (sym (not-false (is_none s.tank) o.0)) tt)) parts) in
       halves_reach (filled s (StateTank t)) (reach_slots s h)
       (yes_three (clear (tank_flaws t)) (site_clear s.site) (anchors_clear t.diameter s.anchors)
       (accepted_clear (tank_flaws t) o.1)
-      (subst (λ (x : Option Site). T (site_clear x)) (sym (site_blank_lem s.site b.0)) tt)
-      (subst (λ (a : Option Anchors). T (anchors_clear t.diameter a)) (sym (anchors_blank_lem s.anchors b.1)) tt))
+      (subst (λ (x : Option Site). T (site_clear x)) (sym (none_stated s.site b.0)) tt)
+      (subst (λ (a : Option Anchors). T (anchors_clear t.diameter a)) (sym (none_stated s.anchors b.1)) tt))
   filled_reachable (StateSite x) e =
-      let o = first_cons (NoTank when tank_blank s.tank) (site_flaws x) e in
-      let d = tank_held s.tank o.0 in
+      let o = first_cons (NoTank when is_none s.tank) (site_flaws x) e in
+      let d = held_some s.tank o.0 in
       halves_reach (filled s (StateSite x)) (reach_slots s h)
       (held_parts d (Some x) s.anchors s.count (accepted_clear (site_flaws x) o.1) (parts_held d).2)
   filled_reachable (StateAnchors a) e =
-      let o = first_cons (NoTank when tank_blank s.tank) (anchor_flaws (tank_of s.tank).diameter a) e in
-      let d = tank_held s.tank o.0 in
+      let o = first_cons (NoTank when is_none s.tank) (anchor_flaws (tank_of s.tank).diameter a) e in
+      let d = held_some s.tank o.0 in
       halves_reach (filled s (StateAnchors a)) (reach_slots s h)
       (held_parts d s.site (Some a) s.count (parts_held d).1
       (accepted_clear (anchor_flaws d.entry.diameter a) (subst (λ (e : Option Tank). first_of (anchor_flaws (tank_of e).diameter a) ≡ Ok tt) d.is o.1)))
   filled_reachable (AddCourse c) e =
-      let high = too_high (height_of (held s)) c in
-      let o = first_cons (NoTank when tank_blank s.tank) ((CoursesFull when leb 12 s.count) ∷ (course_flaws c ++ high ∷ [])) e in
-      let f = first_cons (CoursesFull when leb 12 s.count) (course_flaws c ++ high ∷ []) o.1 in
-      let g = first_append (course_flaws c) (high ∷ []) f.1 in
-      let d = tank_held s.tank o.0 in
+      let k = course_taken s c e in
+      let d = held_some s.tank k.tank in
       halves_reach (filled s (AddCourse c))
-      (course_slots s.courses s.count c (reach_slots s h) (leb-false 12 s.count f.0) (accepted_clear (course_flaws c) g.0) (ltb-false 76800 (height_of (held s) + c.width) (first_cons high [] g.1).0))
+      (course_slots s.courses s.count c (reach_slots s h) k.room k.clear k.low)
       (held_parts d s.site s.anchors (s.count + 1) (parts_held d).1 (parts_held d).2)
 
   -- A STEP ON A SHEET THAT PASSES THE TEST LEAVES ONE THAT DOES
@@ -189,10 +189,8 @@ applied_accepted s x e = go (first_of (order_of s x)) e
 pub held_next : (s : Sheet) (c : Course) → T (reachable s) → first_of (order_of s (AddCourse c)) ≡ Ok tt
     → held (filled s (AddCourse c)) ≡ held s ++ (c ∷ [])
 held_next s c h e =
-    let high = too_high (height_of (held s)) c in
-    let o = first_cons (NoTank when tank_blank s.tank) ((CoursesFull when leb 12 s.count) ∷ (course_flaws c ++ high ∷ [])) e in
-    let f = leb-false 12 s.count (first_cons (CoursesFull when leb 12 s.count) (course_flaws c ++ high ∷ []) o.1).0 in
-    take_set s.courses s.count c (omega (arith, f, (reach_slots s h).twelve))
+    let room = (course_taken s c e).room in
+    take_set s.courses s.count c (omega (arith, room, (reach_slots s h).twelve))
 
 pub reply_reachable : (s : Sheet) (x : Step) (y : Reply) → y ≡ applied s x → T (reachable s) → T (reachable y.sheet)
 reply_reachable s x y e h = subst (λ (z : Reply). T (reachable z.sheet)) (sym e) (step_reachable s h x)

@@ -8,7 +8,8 @@ use native.Mathlib.Omega.{arith}
 use lib.ListN.{set, take, drop}
 use Rattle.fields.specs.declared.refusal.Refusal.{Refusal}
 use Rattle.fields.specs.Order.{Answer, first_of}
-use Rattle.entries.specs.Sheet.{too_high, empty_sheet, height_of, tank_flaws, site_flaws, anchor_flaws, course_flaws}
+use Rattle.entries.specs.Sheet.{empty_sheet, height_of}
+use Rattle.flaws.specs.Flaws.{too_high, tank_flaws, site_flaws, anchor_flaws, course_flaws}
 use Rattle.entries.specs.declared.sheet.Tank.{Tank}
 use Rattle.entries.specs.declared.sheet.Site.{Site}
 use Rattle.entries.specs.declared.sheet.Anchors.{Anchors}
@@ -21,15 +22,23 @@ use Rattle.layout.proofs.HeaderLaws.{courses_next}
 use Rattle.sheet.specs.Steps.{filled, refused, replied, applied, in_turn}
 use Rattle.sheet.specs.declared.steps.Step.{Step}
 use Rattle.sheet.specs.declared.steps.Step.TheVariants.{StateTank, StateSite, StateAnchors, AddCourse}
-use Rattle.sheet.specs.Reading.{from_courses, before_courses, steps_in}
+use Rattle.sheet.specs.declared.steps.Reply.{Reply}
+use Rattle.sheet.specs.Reading.{from_courses, before_courses, steps_in, with_height}
 use Rattle.sheet.proofs.StepLaws.{tank_applied, site_applied, anchors_applied, course_applied, turn_refused, turn_accepted}
 
 -- the steps as they are read, part by part
-pub steps_read : (b : List ℕ) {tail : List ℕ} {t : Tank} {x : Site} {a : Anchors} {n : ℕ} → tail ≡ tail_in version1 b → t ≡ tank_in (drop 3 b)
+steps_read : (b : List ℕ) {tail : List ℕ} {t : Tank} {x : Site} {a : Anchors} {n : ℕ} → tail ≡ tail_in version1 b → t ≡ tank_in (drop 3 b)
     → x ≡ site_in tail → a ≡ anchors_in (drop 20 tail) → n ≡ count_of version1 (two_in b)
     → (StateTank t ∷ StateSite x ∷ StateAnchors a ∷ from_courses n tail) ≡ steps_in version1 b
 unfolding steps_in
 steps_read b p q r s k = rw (q, r, s, k, p)
+
+-- so what these come to, the bytes do
+pub read_as : (b : List ℕ) {tail : List ℕ} {t : Tank} {x : Site} {a : Anchors} {n : ℕ} {y : Reply} → tail ≡ tail_in version1 b → t ≡ tank_in (drop 3 b)
+    → x ≡ site_in tail → a ≡ anchors_in (drop 20 tail) → n ≡ count_of version1 (two_in b)
+    → in_turn empty_sheet (StateTank t ∷ StateSite x ∷ StateAnchors a ∷ from_courses n tail) ≡ y
+    → with_height y ≡ with_height (in_turn empty_sheet (steps_in version1 b))
+read_as b p q r s k e = ap with_height (sym e ∙ ap (in_turn empty_sheet) (steps_read b p q r s k))
 
 -- tank, site and anchors in turn, and then other steps
 module _ (t : Tank) (x : Site) (a : Anchors) (xs : List Step) where

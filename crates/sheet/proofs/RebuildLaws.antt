@@ -3,7 +3,7 @@
 -- Assumes nothing.
 use Rattle.entries.specs.declared.sheet.Site.{Site}
 use Rattle.entries.specs.declared.sheet.Anchors.{Anchors}
-use Rattle.std.specs.Prelude.{Option, Some, None, Ok, Err}
+use Rattle.std.specs.Prelude.{Option, Some, None, is_none, Ok, Err}
 use mathlib.Core.Path.{◌≡◌, refl, sym, ap, ◌∙◌, subst}
 use mathlib.Core.Bool.{Bool, true}
 use mathlib.Core.List.{List, [], ◌∷◌, ◌++◌, map, append-nil}
@@ -18,8 +18,9 @@ use borrow.Author.Tests.{le-ltb}
 use Rattle.fields.specs.declared.refusal.Refusal.{Refusal}
 use Rattle.fields.specs.Order.{Answer, clear}
 use Rattle.fields.proofs.OrderLaws.{first_then, clash, clear_accepted}
-use Rattle.entries.specs.Sheet.{course_figures, blank_course, empty_sheet, held, height_of, tank_flaws, site_flaws, anchor_flaws, course_flaws}
-use Rattle.parts.specs.Parts.{blank, site_blank, site_clear, anchors_blank, anchors_clear, courses_clear, courses_blank, parts_reachable}
+use Rattle.entries.specs.Sheet.{course_figures, blank_course, empty_sheet, held, height_of}
+use Rattle.flaws.specs.Flaws.{tank_flaws, site_flaws, anchor_flaws, course_flaws}
+use Rattle.parts.specs.Parts.{blank, site_clear, anchors_clear, courses_clear, courses_blank, parts_reachable}
 use Rattle.sheet.specs.Steps.{accepted, refused, applied, run, LeftByRun, reachable, unless, in_turn}
 use Rattle.sheet.specs.declared.steps.Step.{Step}
 use Rattle.sheet.specs.declared.steps.Step.TheVariants.{StateTank, StateSite, StateAnchors, AddCourse}
@@ -32,7 +33,7 @@ use Rattle.lists.proofs.BoolLaws.{three_yes}
 use Rattle.lists.proofs.PadLaws.{padded_next}
 use Rattle.entries.proofs.CourseLaws.{height_append, height_cons}
 use Rattle.sheet.proofs.StepLaws.{tank_applied, site_applied, anchors_applied, course_applied, turn, turn_accepted}
-use Rattle.sheet.proofs.ReachLaws.{site_blank_lem, anchors_blank_lem, Slots, Held, reach_halves, reach_slots, parts_held, empty_reachable, run_reachable}
+use Rattle.sheet.proofs.ReachLaws.{none_stated, Slots, Held, reach_halves, reach_slots, parts_held, empty_reachable, run_reachable}
 
 -- ---- a reachable sheet is its parts, with blank slots behind its courses
 
@@ -150,7 +151,7 @@ module _ (t : Tank) where
       ∙ courses_added t x a cs [] (omega arith) kc (omega arith)
 
 -- A SHEET THAT PASSES THE TEST IS WHAT ITS OWN STEPS LEAVE
-pub rebuilt : (s : Sheet) → T (reachable s) → (d : Held Some s.tank)
+pub rebuilt : (s : Sheet) → T (reachable s) → (d : Held s.tank)
     → in_turn empty_sheet (steps_of d.entry s.site s.anchors (held s)) ≡ accepted s
 rebuilt s h d =
     let p = parts_held s h d in
@@ -175,11 +176,11 @@ in_turn_run (x ∷ xs) s t e = go (applied s x).answer (in_turn_run xs (applied 
 
 no_tank_empty : (s : Sheet) → T (reachable s) → s.tank ≡ None → s ≡ empty_sheet
 no_tank_empty s h e =
-    let b = three_yes (site_blank s.site) (anchors_blank s.anchors) (eqb s.count 0)
+    let b = three_yes (is_none s.site) (is_none s.anchors) (eqb s.count 0)
     (subst (λ (e : Option Tank). T (parts_reachable e s.site s.anchors s.count)) e (reach_halves s h).1) in
     let n : s.count ≡ 0 = eqb_yes b.2 in
-    let x : s.site ≡ None = site_blank_lem s.site b.0 in
-    let a : s.anchors ≡ None = anchors_blank_lem s.anchors b.1 in
+    let x : s.site ≡ None = none_stated s.site b.0 in
+    let a : s.anchors ≡ None = none_stated s.anchors b.1 in
     let c : held s ≡ [] = ap (λ (k : ℕ). take k s.courses) n in
     as_parts s h
     ∙ ap (λ (e : Option Tank). sheet_of e s.site s.anchors (held s)) e

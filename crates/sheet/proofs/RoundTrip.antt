@@ -1,7 +1,7 @@
 -- The round trips: bytes that are read and written again are the same bytes (`writes_back`); a complete sheet that is written and read again
 -- is the same sheet (`reads_back`).
 -- Assumes nothing.
-use Rattle.sheet.specs.declared.complete.Entries.{Entries}
+use Rattle.entries.specs.declared.complete.Entries.{Entries}
 use Rattle.std.specs.Prelude.{Option, Some, Result, Ok, Err}
 use mathlib.Core.Path.{◌≡◌, refl, sym, ap, ◌∙◌, subst}
 use mathlib.Core.List.{List, [], ◌∷◌, ◌++◌, map, append-nil}
@@ -17,15 +17,16 @@ use Rattle.fields.specs.declared.refusal.Refusal.{Refusal}
 use Rattle.fields.specs.declared.refusal.Refusal.TheVariants.{BadAnchors, BufferTooShort}
 use Rattle.fields.proofs.RefusalLaws.{never_zero}
 use Rattle.lists.proofs.BoolLaws.{T_true}
-use Rattle.fields.specs.Order.{Answer, Condition, ◌when◌, Figure, values, first_of, reply_unless, outside, clear, answer_code, first_code}
-use Rattle.fields.proofs.OrderLaws.{clash, accepted_code, clear_accepted}
-use Rattle.entries.specs.Sheet.{tank_fields, site_fields, anchor_fields, course_fields, empty_sheet, held, height_of, allowance_too_large, bad_anchors, tank_flaws, site_flaws, anchor_flaws, course_flaws}
+use Rattle.fields.specs.Order.{Answer, Condition, ◌when◌, Figure, values, first_of, outside, clear, answer_code, first_code}
+use Rattle.fields.proofs.OrderLaws.{clash, accepted_code, clear_accepted, reply_given, reply_refused}
+use Rattle.entries.specs.Sheet.{tank_fields, site_fields, anchor_fields, course_fields, empty_sheet, held, height_of}
+use Rattle.flaws.specs.Flaws.{allowance_too_large, bad_anchors, tank_flaws, site_flaws, anchor_flaws, course_flaws}
 use Rattle.entries.specs.declared.sheet.Tank.{Tank}
 use Rattle.entries.specs.declared.sheet.Site.{Site}
 use Rattle.entries.specs.declared.sheet.Anchors.{Anchors}
 use Rattle.entries.specs.declared.sheet.Course.{Course}
 use Rattle.entries.specs.declared.sheet.Sheet.{Sheet}
-use Rattle.entries.proofs.FieldLaws.{all_pass, both_pass}
+use Rattle.flaws.proofs.FieldLaws.{all_pass, both_pass}
 use Rattle.layout.specs.Numbers.{AllBytes, two_in}
 use Rattle.layout.specs.Layout.{version1, whole_length, layout}
 use Rattle.layout.specs.Header.{tank_in, site_in, anchors_in, courses_in, tail_in, count_of, read_order, Header}
@@ -217,19 +218,21 @@ reads_back s buf = go (completed_of s) refl
     go (Err r) o = by (write_refused s buf refl o) (refused_back s r buf)
     go (Ok e) o = room (complete_is s refl o) (dec_le (size_of (entries_of s)) (length buf))
 
-pub written_clauses : (s : Sheet) (buf : List ℕ) {v : WriteReply} → written s buf ≡ v
-    → (v.answer ≡ (written s buf).answer)
-    × ((v.buffer ≡ (written s buf).buffer) × ((write_code v.answer ≡ written_code s (length buf)) × ReadsBack s v.answer v.buffer))
-written_clauses s buf e = (
-  sym (ap (λ (z : WriteReply). z.answer) e),
-  (
-    sym (ap (λ (z : WriteReply). z.buffer) e),
-    (
-      sym (ap (λ (z : WriteReply). write_code z.answer) e) ∙ write_code_lem s buf,
-      subst (λ (z : WriteReply). ReadsBack s z.answer z.buffer) e (reads_back s buf),
-    ),
-  ),
-)
+-- what is promised of the reply v
+pub record Written (s : Sheet) (buf : List ℕ) (v : WriteReply) : Type 0 where
+  pub value : v.answer ≡ (written s buf).answer
+  pub buffer : v.buffer ≡ (written s buf).buffer
+  pub code : write_code v.answer ≡ written_code s (length buf)
+  pub reads_back : ReadsBack s v.answer v.buffer
+
+pub written_clauses : (s : Sheet) (buf : List ℕ) {v : WriteReply} → written s buf ≡ v → Written s buf v
+written_clauses s buf e =
+    record {
+      value = sym (ap (λ (z : WriteReply). z.answer) e);
+      buffer = sym (ap (λ (z : WriteReply). z.buffer) e);
+      code = sym (ap (λ (z : WriteReply). write_code z.answer) e) ∙ write_code_lem s buf;
+      reads_back = subst (λ (z : WriteReply). ReadsBack s z.answer z.buffer) e (reads_back s buf);
+    }
 
 -- ---- the sheet that bytes are, and its entries
 
@@ -249,29 +252,21 @@ read_empty b e =
     unless_empty (first_of (read_order version1 b)) (in_turn empty_sheet (steps_in version1 b)) (turn_empty (steps_in version1 b) empty_sheet) e
 
 module _ (b : List ℕ) {y : Result Reading Refusal} (q : y ≡ with_height (read_in b)) where
+  -- refused as the bytes are
+  was_refused : {r : Refusal} → y ≡ Err r → (read_in b).answer ≡ Err r
+  was_refused {r} k = (reply_refused (reading (read_in b).sheet) (read_in b).answer r).0 (sym q ∙ k)
+
   pub refusal_is : {r : Refusal} → y ≡ Err r → refused r empty_sheet ≡ read_in b
-  refusal_is {r} k = sym (read_empty b (go (read_in b).answer (sym q ∙ k)))
-    where
-      go : (a : Answer) → reply_unless a (reading (read_in b).sheet) ≡ Err r → a ≡ Err r
-      go (Ok u) e = clash (sym e)
-      go (Err q) e = let k : q ≡ r = cc in ap Err k
+  refusal_is k = sym (read_empty b (was_refused k))
 
   pub read_refused : {r : Refusal} → y ≡ Err r → read_completed b ≡ Err r
   unfolding read_completed
-  read_refused {r} k = go (read_in b).answer (sym q ∙ k)
-    where
-      go : (a : Answer) → reply_unless a (reading (read_in b).sheet) ≡ Err r → completed_from a (read_in b).sheet ≡ Err r
-      go (Ok u) e = clash (sym e)
-      go (Err q) e = let k : q ≡ r = cc in ap Err k
+  read_refused k = ap (λ (a : Answer). completed_from a (read_in b).sheet) (was_refused k)
 
   module _ {v : Reading} (k : y ≡ Ok v) where
     -- the answer, and what was read
     was_read : ((read_in b).answer ≡ Ok tt) × (v ≡ reading (read_in b).sheet)
-    was_read = go (read_in b).answer (sym q ∙ k)
-      where
-        go : (a : Answer) → reply_unless a (reading (read_in b).sheet) ≡ Ok v → (a ≡ Ok tt) × (v ≡ reading (read_in b).sheet)
-        go (Ok u) e = (refl, let k : reading (read_in b).sheet ≡ v = cc in sym k)
-        go (Err r) e = clash e
+    was_read = reply_given (reading (read_in b).sheet) (read_in b).answer (sym q ∙ k)
 
     pub reading_is : accepted v.sheet ≡ read_in b
     reading_is =

@@ -2,17 +2,16 @@
 -- Assumes nothing.
 use Rattle.std.specs.Prelude.{Option, Some, None, Ok, Err}
 use mathlib.Core.Path.{◌≡◌, refl, sym, ap, ◌∙◌}
-use mathlib.Core.Bool.{true, false, not, cond}
+use mathlib.Core.Bool.{true}
 use mathlib.Core.List.{List, [], ◌∷◌, ◌++◌}
-use Prim.Native.Nat.{◌≤◌, ◌<◌}
-use lib.Dec.{leb}
-use borrow.Author.Tests.{le-leb, lt-leb}
+use Prim.Native.Nat.{◌<◌}
+use borrow.Author.Tests.{lt-leb}
 use Rattle.fields.specs.declared.refusal.Refusal.{Refusal}
-use Rattle.fields.specs.declared.refusal.Refusal.TheVariants.{Unreachable, TankStated, NoTank, CoursesFull}
-use Rattle.fields.proofs.OrderLaws.{clash}
-use Rattle.fields.specs.Order.{Answer, Condition, ◌when◌, first_of, reply_unless}
-use Rattle.entries.specs.Sheet.{too_high, empty_sheet, held, height_of, tank_flaws, site_flaws, anchor_flaws, course_flaws, tank_of}
-use Rattle.sheet.specs.Steps.{tank_blank, order_of, filled, refused, replied, applied, run, anchors_after, last_anchors, stated, reachable, unless, in_turn, unreachable, accepted}
+use Rattle.fields.proofs.OrderLaws.{reply_given, reply_refused}
+use Rattle.fields.specs.Order.{Answer, first_of, reply_unless}
+use Rattle.entries.specs.Sheet.{empty_sheet, held, height_of}
+use Rattle.flaws.specs.Flaws.{too_high, tank_flaws, site_flaws, anchor_flaws, course_flaws}
+use Rattle.sheet.specs.Steps.{order_of, filled, refused, replied, applied, run, anchors_after, last_anchors, stated, reachable, unless, in_turn, unreachable, accepted}
 use Rattle.sheet.specs.declared.steps.Step.{Step}
 use Rattle.sheet.specs.declared.steps.Step.TheVariants.{StateTank, StateSite, StateAnchors, AddCourse}
 use Rattle.entries.specs.declared.sheet.Tank.{Tank}
@@ -23,65 +22,29 @@ use Rattle.entries.specs.declared.sheet.Sheet.{Sheet}
 use Rattle.sheet.specs.declared.steps.Reply.{Reply}
 
 module _ (s : Sheet) where
-  -- the answer of an order that looks at the tank held
-  by_tank : (x : Step) (cs : Option Tank → List Condition) (e : Option Tank) → order_of s x ≡ cs s.tank → s.tank ≡ e
-      → applied s x ≡ replied (first_of (cs e)) s (filled s x)
+  -- before the tank
+  pub tank_applied : s.tank ≡ None → (t : Tank) → applied s (StateTank t) ≡ replied (first_of (tank_flaws t)) s (filled s (StateTank t))
   unfolding applied
-  by_tank x cs e h k = ap (λ (l : List Condition). replied (first_of l) s (filled s x)) (h ∙ ap cs k)
+  tank_applied b t = rw b refl
 
-  -- before the tank, and after it
-  module _ (b : s.tank ≡ None) where
-    pub tank_applied : (t : Tank) → applied s (StateTank t) ≡ replied (first_of (tank_flaws t)) s (filled s (StateTank t))
-    tank_applied t = by_tank (StateTank t) (λ e. (TankStated when not (tank_blank e)) ∷ tank_flaws t) None refl b
-
-    pub site_early : (x : Site) → applied s (StateSite x) ≡ refused NoTank s
-    site_early x = by_tank (StateSite x) (λ e. (NoTank when tank_blank e) ∷ site_flaws x) None refl b
-
-    pub anchors_early : (a : Anchors) → applied s (StateAnchors a) ≡ refused NoTank s
-    anchors_early a = by_tank (StateAnchors a) (λ e. (NoTank when tank_blank e) ∷ anchor_flaws (tank_of e).diameter a) None refl b
-
-    pub course_early : (c : Course) → applied s (AddCourse c) ≡ refused NoTank s
-    course_early c =
-        by_tank (AddCourse c)
-        (λ e. (NoTank when tank_blank e) ∷ (CoursesFull when leb 12 s.count) ∷ (course_flaws c ++ too_high (height_of (held s)) c ∷ []))
-        None
-        refl
-        b
-
+  -- and after it
   module _ (d : Tank) (f : s.tank ≡ Some d) where
-    pub tank_again : (t : Tank) → applied s (StateTank t) ≡ refused TankStated s
-    tank_again t = by_tank (StateTank t) (λ e. (TankStated when not (tank_blank e)) ∷ tank_flaws t) (Some d) refl f
-
     pub site_applied : (x : Site) → applied s (StateSite x) ≡ replied (first_of (site_flaws x)) s (filled s (StateSite x))
-    site_applied x = by_tank (StateSite x) (λ e. (NoTank when tank_blank e) ∷ site_flaws x) (Some d) refl f
+    unfolding applied
+    site_applied x = rw f refl
 
     pub anchors_applied : (a : Anchors)
         → applied s (StateAnchors a) ≡ replied (first_of (anchor_flaws d.diameter a)) s (filled s (StateAnchors a))
-    anchors_applied a = by_tank (StateAnchors a) (λ e. (NoTank when tank_blank e) ∷ anchor_flaws (tank_of e).diameter a) (Some d) refl f
-
-    course_order : (c : Course)
-        → applied s (AddCourse c)
-        ≡ replied (cond (leb 12 s.count) (Err CoursesFull) (first_of (course_flaws c ++ too_high (height_of (held s)) c ∷ []))) s (filled s (AddCourse c))
-    course_order c =
-        by_tank (AddCourse c)
-        (λ e. (NoTank when tank_blank e) ∷ (CoursesFull when leb 12 s.count) ∷ (course_flaws c ++ too_high (height_of (held s)) c ∷ []))
-        (Some d)
-        refl
-        f
-
-    pub course_full : (c : Course) → 12 ≤ s.count → applied s (AddCourse c) ≡ refused CoursesFull s
-    course_full c h = course_order c ∙ rw (le-leb _ _ h)
+    unfolding applied
+    anchors_applied a = rw f refl
 
     pub course_applied : (c : Course) → s.count < 12
         → applied s (AddCourse c)
         ≡ replied (first_of (course_flaws c ++ too_high (height_of (held s)) c ∷ [])) s (filled s (AddCourse c))
-    course_applied c h = course_order c ∙ rw (lt-leb _ _ h)
+    unfolding applied
+    course_applied c h = rw (f, lt-leb 12 s.count h) refl
 
-  -- a sheet that is handed in: 30 first
-  pub stated_unreachable : (x : Step) → reachable s ≡ false → stated s x ≡ refused Unreachable s
-  unfolding stated
-  stated_unreachable x e = rw e
-
+  -- on a sheet that is handed in and passes the test, the step's own order
   pub stated_applied : (x : Step) → reachable s ≡ true → stated s x ≡ applied s x
   unfolding stated applied
   stated_applied x e = rw e
@@ -91,20 +54,15 @@ module _ (s : Sheet) (x : Step) where
   pub left_reply : {t : Sheet} → reply_unless (first_of (unreachable s ∷ order_of s x)) (filled s x) ≡ Ok t
       → record { answer = Ok tt; sheet = t } ≡ stated s x
   unfolding stated
-  left_reply {t} e = go (first_of (unreachable s ∷ order_of s x)) e
-    where
-      go : (a : Answer) → reply_unless a (filled s x) ≡ Ok t → record { answer = Ok tt; sheet = t } ≡ replied a s (filled s x)
-      go (Ok u) e = let k : filled s x ≡ t = cc in ap accepted (sym k)
-      go (Err r) e = clash e
+  left_reply e =
+      let k = reply_given (filled s x) (first_of (unreachable s ∷ order_of s x)) e in
+      ap accepted k.1 ∙ sym (ap (λ (a : Answer). replied a s (filled s x)) k.0)
 
   pub refused_reply : {r : Refusal} → reply_unless (first_of (unreachable s ∷ order_of s x)) (filled s x) ≡ Err r
       → refused r s ≡ stated s x
   unfolding stated
-  refused_reply {r} e = go (first_of (unreachable s ∷ order_of s x)) e
-    where
-      go : (a : Answer) → reply_unless a (filled s x) ≡ Err r → refused r s ≡ replied a s (filled s x)
-      go (Ok u) e = clash (sym e)
-      go (Err q) e = let k : q ≡ r = cc in ap (λ (r : Refusal). refused r s) (sym k)
+  refused_reply {r} e =
+      sym (ap (λ (a : Answer). replied a s (filled s x)) ((reply_refused (filled s x) (first_of (unreachable s ∷ order_of s x)) r).0 e))
 
 -- steps in turn, after the first of them was given this reply
 pub turn : (s : Sheet) (x : Step) (xs : List Step) {y : Reply} → applied s x ≡ y → in_turn s (x ∷ xs) ≡ unless y.answer (in_turn y.sheet xs)

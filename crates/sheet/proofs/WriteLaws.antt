@@ -18,7 +18,7 @@ use Rattle.layout.specs.Layout.{version1, whole_length, prefix_of, tail_head, co
 use Rattle.layout.proofs.LayoutLaws.{whole_of_one, layout_stored}
 use Rattle.sheet.specs.Complete.{entries_of, courses_of, completed_of, is_thirty, order_after, Valid}
 use Rattle.sheet.specs.Writing.{bytes_of, size_of, no_room, WriteReply, write_reply, written, written_entries}
-use Rattle.sheet.specs.declared.complete.Entries.{Entries}
+use Rattle.entries.specs.declared.complete.Entries.{Entries}
 use Rattle.sheet.proofs.CompleteLaws.{complete_first, entries_are, courses_length}
 
 abbrev pub denied : Refusal → List ℕ → WriteReply

@@ -1,25 +1,26 @@
 -- What judging and writing ask of a sheet first, and what a complete one holds: document 01, "Filling in" ("A sheet is complete when it has a
 -- tank, a site and a course") and "Order", with S-1 of document 02 ("A sheet is complete only when its anchors are stated too").
-use Rattle.std.specs.Prelude.{◌≡◌, Bool, true, false, cond, List, [], ◌∷◌, ◌++◌, ◌≤◌, T, eqb, length, take, replicate, None, Result, Ok, Err}
+use Rattle.std.specs.Prelude.{◌≡◌, Bool, true, false, cond, List, [], ◌∷◌, ◌++◌, ◌≤◌, T, eqb, length, take, replicate, None, is_none, Result, Ok, Err}
 use Rattle.std.specs.Result.{result_unwrap_or}
 use Rattle.fields.specs.declared.refusal.Refusal.{Refusal}
 use Rattle.fields.specs.declared.refusal.Code.{Code}
 use Rattle.fields.specs.declared.refusal.Refusal.TheVariants.{Unreachable, NoTank, NoCourse, NoSite, AnchorsUnstated}
 use Rattle.fields.specs.Order.{Condition, ◌when◌, first_of, reply_unless, clear, answer_code, first_code}
-use Rattle.entries.specs.Sheet.{blank_course, held, height_of, tank_of, site_of, anchors_of, tank_flaws, site_flaws, anchor_flaws}
+use Rattle.entries.specs.Sheet.{blank_course, held, height_of}
+use Rattle.flaws.specs.Flaws.{tank_of, site_of, anchors_of, tank_flaws, site_flaws, anchor_flaws}
 use Rattle.entries.specs.declared.sheet.Course.{Course}
 use Rattle.entries.specs.declared.sheet.Sheet.{Sheet}
-use Rattle.parts.specs.Parts.{site_blank, anchors_blank, courses_clear}
-use Rattle.sheet.specs.Steps.{tank_blank, unreachable}
-use Rattle.sheet.specs.declared.complete.Entries.{Entries}
+use Rattle.parts.specs.Parts.{courses_clear}
+use Rattle.sheet.specs.Steps.{unreachable}
+use Rattle.entries.specs.declared.complete.Entries.{Entries}
 
 -- 32, 35, 36, 38
 abbrev pub incomplete : Sheet → List Condition
 incomplete s =
-    (NoTank when tank_blank s.tank)
+    (NoTank when is_none s.tank)
     ∷ (NoCourse when eqb s.count 0)
-    ∷ (NoSite when site_blank s.site)
-    ∷ (AnchorsUnstated when anchors_blank s.anchors)
+    ∷ (NoSite when is_none s.site)
+    ∷ (AnchorsUnstated when is_none s.anchors)
     ∷ []
 
 -- An order that goes on from these. `between` is what stands between 30 and 32 (in judging 42: document 02, S-3), `after` what follows.

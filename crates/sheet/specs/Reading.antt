@@ -20,7 +20,7 @@ use Rattle.sheet.specs.declared.steps.Step.{Step}
 use Rattle.sheet.specs.declared.steps.Step.TheVariants.{StateTank, StateSite, StateAnchors, AddCourse}
 use Rattle.sheet.specs.Complete.{complete_order, entries_of, completed_of, CompletedCode, code_with}
 use Rattle.sheet.specs.Writing.{written, write_code}
-use Rattle.sheet.specs.declared.complete.Entries.{Entries}
+use Rattle.entries.specs.declared.complete.Entries.{Entries}
 use Rattle.sheet.specs.declared.reading.Reading.{Reading}
 use Rattle.sheet.specs.declared.steps.Reply.{Reply}
 

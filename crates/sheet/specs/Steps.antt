@@ -1,30 +1,26 @@
 -- The steps that fill a sheet in, and the sheets that they leave: document 01, "Filling in", "Refusals that come from the state" and
 -- "Order"; document 02, S-1.
-use Rattle.std.specs.Prelude.{◌≡◌, Bool, true, false, not, ◌&&◌, List, [], ◌∷◌, ◌++◌, ◌+◌, leb, set, Option, Some, None, Ok, Err}
+use Rattle.std.specs.Prelude.{◌≡◌, Bool, not, ◌&&◌, List, [], ◌∷◌, ◌++◌, ◌+◌, leb, set, Option, Some, is_none, Ok, Err}
 use Rattle.fields.specs.declared.refusal.Refusal.{Refusal}
 use Rattle.fields.specs.declared.refusal.Refusal.TheVariants.{Unreachable, TankStated, NoTank, CoursesFull}
 use Rattle.fields.specs.Order.{Answer, Condition, ◌when◌, first_of}
-use Rattle.entries.specs.Sheet.{too_high, empty_sheet, held, height_of, tank_flaws, site_flaws, anchor_flaws, course_flaws, tank_of}
+use Rattle.entries.specs.Sheet.{empty_sheet, held, height_of}
+use Rattle.flaws.specs.Flaws.{too_high, tank_flaws, site_flaws, anchor_flaws, course_flaws, tank_of}
 use Rattle.parts.specs.Parts.{slots_reachable, parts_reachable}
-use Rattle.entries.specs.declared.sheet.Tank.{Tank}
 use Rattle.entries.specs.declared.sheet.Anchors.{Anchors}
 use Rattle.entries.specs.declared.sheet.Sheet.{Sheet}
 use Rattle.sheet.specs.declared.steps.Step.{Step}
 use Rattle.sheet.specs.declared.steps.Step.TheVariants.{StateTank, StateSite, StateAnchors, AddCourse}
 use Rattle.sheet.specs.declared.steps.Reply.{Reply}
 
-abbrev pub tank_blank : Option Tank → Bool
-tank_blank None = true
-tank_blank (Some t) = false
-
 -- The order of refusals of each step, 30 aside.
 -- Tank: 31, 16, 17. Site: 32, 16. Anchors: 32, 16, 18. Course: 32, 33, 16, 17, 34.
 abbrev pub order_of : Sheet → Step → List Condition
-order_of s (StateTank t) = (TankStated when not (tank_blank s.tank)) ∷ tank_flaws t
-order_of s (StateSite x) = (NoTank when tank_blank s.tank) ∷ site_flaws x
-order_of s (StateAnchors a) = (NoTank when tank_blank s.tank) ∷ anchor_flaws (tank_of s.tank).diameter a
+order_of s (StateTank t) = (TankStated when not (is_none s.tank)) ∷ tank_flaws t
+order_of s (StateSite x) = (NoTank when is_none s.tank) ∷ site_flaws x
+order_of s (StateAnchors a) = (NoTank when is_none s.tank) ∷ anchor_flaws (tank_of s.tank).diameter a
 order_of s (AddCourse c) =
-    (NoTank when tank_blank s.tank)
+    (NoTank when is_none s.tank)
     ∷ (CoursesFull when leb 12 s.count)
     ∷ (course_flaws c ++ too_high (height_of (held s)) c ∷ [])
 

@@ -9,7 +9,7 @@ use Rattle.fields.specs.Order.{Answer, Condition, ◌when◌, first_of, first_co
 use Rattle.entries.specs.declared.sheet.Sheet.{Sheet}
 use Rattle.layout.specs.Layout.{version1, whole_length, layout}
 use Rattle.sheet.specs.Complete.{complete_order, entries_of, courses_of}
-use Rattle.sheet.specs.declared.complete.Entries.{Entries}
+use Rattle.entries.specs.declared.complete.Entries.{Entries}
 
 -- the bytes of a complete sheet, and how many
 unfoldable pub bytes_of : Entries → List ℕ

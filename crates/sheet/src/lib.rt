@@ -2,7 +2,6 @@
 // of writing. A sheet goes in by value and comes back by value; nothing here knows the rules.
 #![tactic(auto)]
 
-pub mod complete;
 pub mod reach;
 pub mod reading;
 pub mod steps;

@@ -11,7 +11,7 @@ ghost use Rattle.sheet.specs.Reading.{from_courses, before_courses, steps_in, re
 
 use crate::steps;
 use crate::steps::Reply;
-use entries::{Anchors, Course, MOST_COURSES, Sheet, Site, Tank, flaws};
+use entries::{Anchors, Course, MOST_COURSES, Sheet, Site, Tank};
 use fields::Refusal;
 
 // A sheet that was read, and the height of its courses.

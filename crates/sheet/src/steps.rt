@@ -2,11 +2,11 @@
 // the sheet that was handed in.
 ghost use Rattle.std.specs.Prelude.{◌≡◌, [], ◌∷◌, ◌++◌, ◌≤◌, T, ltb};
 ghost use Rattle.fields.specs.Order.{◌when◌, first_of, reply_unless, answer_code, first_code};
-ghost use Rattle.entries.specs.Sheet.{too_high, course_flaws};
+ghost use Rattle.flaws.specs.Flaws.{too_high, course_flaws};
 ghost use Rattle.sheet.specs.Steps.{order_of, filled, anchors_after, reachable, unreachable, stated};
 
 use crate::reach;
-use entries::{Anchors, Course, MOST_COURSES, MOST_HEIGHT, Sheet, Site, Tank, flaws};
+use entries::{Anchors, Course, MOST_COURSES, MOST_HEIGHT, Sheet, Site, Tank};
 use fields::Refusal;
 use parts::slots;
 

@@ -1,11 +1,14 @@
--- When each check of a tank's way of standing holds. A self-anchored tank stands in an earthquake unless its uplift is over.
+-- When each check of a tank's way of standing holds. A self-anchored tank stands in an earthquake unless its uplift is over; and the uplift at
+-- literal numbers, since demand 3 does not speak of 785 and its word is printed.
 -- Assumes nothing.
 use mathlib.Core.Path.{◌≡◌, refl}
 use mathlib.Core.Bool.{Bool, true, false, cond}
+use mathlib.Core.List.{[], ◌∷◌, map}
 use Prim.Native.Nat.{ℕ, ◌*◌, ◌≤◌}
 use native.Mathlib.Omega.{arith}
 use lib.Dec.{T, leb, leb→le}
 use borrow.Author.Tests.{le-leb}
+use Rattle.lists.specs.Ascii.{ascii}
 use Rattle.rules.specs.Words.{none_word, lift_word, over_word}
 use Rattle.rules.specs.Verdict.{holds}
 use Rattle.rules.proofs.VerdictLaws.{verdict_holds}
@@ -49,3 +52,9 @@ uplift_word_lem Ms t = go (leb (1000 * Ms) (785 * t)) (leb (1000 * Ms) (1540 * t
     go true b = refl
     go false true = refl
     go false false = refl
+
+-- at either side of 0.785 T and of 1.54 T, where "equality this paper decides", in document 01's letters
+pub uplifts_printed : map (λ (Ms : ℕ). uplift_word (uplift_of Ms 1000)) (785 ∷ 786 ∷ 1540 ∷ 1541 ∷ [])
+    ≡ ascii "none" ∷ ascii "lift" ∷ ascii "lift" ∷ ascii "over" ∷ []
+unfolding uplift_of
+uplifts_printed = refl

@@ -1,5 +1,5 @@
 // Marks a file of many sheets. Standard input is sheets, each as two bytes of length, big-endian, and then as
-// many bytes; their texts are written one after the other. oracle/sheets.py makes both. Reads and writes go by
+// many bytes; their texts are written one after the other. oracle/vectors/marker_groups.py lists both. Reads and writes go by
 // the buffer.
 #![tactic(auto)]
 

@@ -2,7 +2,7 @@
 // compression. Standard input is
 // records: a code, two bytes of length, and the payload, whose figures have four bytes each, big-endian.
 // One sheet is held from record to record; each record's reply is written on a line of its own.
-// oracle/records.py has the format, and makes both the scripts and what is to be written.
+// oracle/vectors/records.py has the format; the oracle makes both the scripts and what is to be written.
 #![tactic(auto)]
 
 mod figures;

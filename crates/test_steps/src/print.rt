@@ -1,4 +1,4 @@
-// Replies as lines of text, in oracle/records.py's letters.
+// Replies as lines of text, in the letters of oracle/vectors/record_answers.py.
 ghost use Rattle.std.specs.Prelude.{◌≤◌};
 
 use compression::Stresses;

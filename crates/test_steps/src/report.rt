@@ -1,4 +1,4 @@
-// A report as the rest of a line of text, in oracle/judged.py's letters; floats by their bits, in hexadecimal.
+// A report as the rest of a line of text, in the letters of oracle/vectors/record_answers.py; floats by their bits, in hexadecimal.
 use reports::report::{AnchorChecks, CourseLine, Report, SelfChecks, Standing};
 use rules::verdict::Verdict;
 use std::io;

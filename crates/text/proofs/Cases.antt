@@ -20,12 +20,12 @@ use Rattle.layout.specs.Layout.{prefix_of, tail_head}
 use Rattle.layout.specs.Header.{is_length}
 use Rattle.sheet.specs.Writing.{bytes_of}
 use Rattle.sheet.specs.Reading.{steps_in, read_in}
-use Rattle.entries.specs.Sheet.{bad_anchors, tank_flaws, site_flaws, anchor_flaws, course_flaws}
+use Rattle.flaws.specs.Flaws.{bad_anchors, tank_flaws, site_flaws, anchor_flaws, course_flaws}
 use Rattle.parts.specs.Parts.{courses_clear, courses_blank, slots_reachable}
 use Rattle.sheet.specs.Steps.{applied, reachable}
-use Rattle.reports.specs.Figures.{resistance_on}
-use Rattle.reports.specs.Report.{line_of, self_checks, anchor_checks, standing_of, courses_hold, word_of, report_of}
-use Rattle.reports.specs.Judging.{judged, refused_for}
+use Rattle.claims.specs.Figures.{resistance_on}
+use Rattle.claims.specs.Report.{line_of, self_checks, anchor_checks, standing_of, courses_hold, word_of, report_of}
+use Rattle.claims.specs.Judging.{judged, refused_for}
 use Rattle.words.specs.Decimal.{decimal}
 use Rattle.lines.specs.Text.{text_of}
 use Rattle.marking.specs.Marking.{marked}

@@ -21,7 +21,7 @@ use Rattle.layout.specs.Header.{is_length, read_order}
 use Rattle.layout.proofs.HeaderLaws.{length_exactly, no_length, too_many}
 use Rattle.sheet.specs.Steps.{unless, in_turn}
 use Rattle.sheet.specs.Reading.{steps_in, read_in}
-use Rattle.reports.specs.Judging.{unless_refused, refused_for, judged}
+use Rattle.claims.specs.Judging.{unless_refused, refused_for, judged}
 use Rattle.lines.specs.Text.{text_of}
 use Rattle.marking.specs.Marking.{marked}
 use Rattle.text.specs.declared.marker.TheConstants.{MOST_BYTES}

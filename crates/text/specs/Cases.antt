@@ -9,7 +9,7 @@ use Rattle.entries.specs.declared.sheet.Sheet.{Sheet}
 use Rattle.sheet.specs.Complete.{entries_of}
 use Rattle.sheet.specs.Writing.{bytes_of}
 use Rattle.layout.specs.Cases.{example_bytes}
-use Rattle.reports.specs.Cases.{example_with, source002_with}
+use Rattle.claims.specs.Cases.{example_with, source002_with}
 
 pub record PrintedCase : Type 0 where
   pub bytes : List ℕ

@@ -1,15 +1,15 @@
 -- The laws of numbers as text.
 -- Assumes nothing.
-use mathlib.Core.Path.{◌≡◌, refl, sym, ap, subst, ◌∙◌}
-use mathlib.Core.Bool.{true, false, cond}
+use mathlib.Core.Path.{◌≡◌, refl, sym, ap, ◌∙◌}
+use mathlib.Core.Bool.{true, cond}
 use mathlib.Core.List.{List, [], ◌∷◌, ◌++◌, append_assoc}
 use Prim.Native.Nat.{ℕ, zero, suc, ◌+◌, ◌*◌, ◌-◌, ◌/◌, ◌%◌, ◌^◌, ◌≤◌, ◌<◌}
 use native.Mathlib.Nat.{lt_of_not-le, pow-suc}
 use native.Mathlib.Decide.{dec_le}
 use native.Mathlib.Omega.{arith}
-use lib.Dec.{T, ltb}
+use lib.Dec.{ltb}
 use lib.ListN.{length, get_or, length-append, get_or-append}
-use lib.IntN.{ℤ, pos, negsuc, nat_abs}
+use lib.IntN.{ℤ, pos, nat_abs}
 use lib.Signed.{lt_z}
 use mir.Syntax.{w64}
 use mir.Val.{SFits, to_z, of_z}
@@ -130,14 +130,6 @@ decimal_most n h = most 19 n (omega arith)
 pub signed_below : (z : ℤ) → SFits w64 z → lt_z (to_z w64 (of_z w64 z)) (pos 0) ≡ true
     → signed z ≡ 0x2d ∷ decimal (nat_abs (to_z w64 (of_z w64 z)))
 signed_below z f t = rw (to_z-of_z f, (below_zero z (rw (to_z-of_z f) at t)).1)
-
-pub signed_above : (z : ℤ) → SFits w64 z → lt_z (to_z w64 (of_z w64 z)) (pos 0) ≡ false
-    → signed z ≡ decimal (nat_abs (to_z w64 (of_z w64 z)))
-signed_above z f t = rw (to_z-of_z f) (above z (rw (to_z-of_z f) at t))
-  where
-    above : (z : ℤ) → lt_z z (pos 0) ≡ false → signed z ≡ decimal (nat_abs z)
-    above (pos n) t = refl
-    above (negsuc n) t = absurd (subst T t tt)
 
 -- a number handed on
 pub signed_same : {n : ℕ} {a b : Text} (z : ℤ) → SFits w64 z → Appends n a (0x20 ∷ signed (to_z w64 (of_z w64 z))) b → Appends n a (0x20 ∷ signed z) b

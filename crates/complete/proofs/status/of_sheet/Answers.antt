@@ -5,7 +5,7 @@ use Rattle.std.specs.Prelude.{Result, Err}
 use Rattle.fields.specs.declared.refusal.Refusal.{Refusal}
 use Rattle.fields.specs.declared.refusal.Refusal.TheVariants.{Unreachable}
 use Rattle.sheet.specs.Complete.{completed_of}
-use Rattle.sheet.specs.declared.complete.Entries.{Entries}
+use Rattle.entries.specs.declared.complete.Entries.{Entries}
 use Rattle.sheet.proofs.ReachLaws.{reach_slots}
 use Rattle.sheet.proofs.CompleteLaws.{complete_clauses}
 use Rattle.complete.proofs.status.of_sheet.Goals as goal

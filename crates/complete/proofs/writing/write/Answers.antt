@@ -18,7 +18,7 @@ returns-in_err-of_sheet c =
     let r = written_clauses a.s a.out.now
     (write_refused a.s a.out.now c.of_sheet.ensures.value c.in_err-of_sheet.was
     ∙ ap (λ (y : Result ℕ Refusal). record { answer = y; buffer = a.out.now }) (sym (passed_on _ _ c.from_residual.ensures.1))) in
-    record { value = r.0; buffer = r.1.0; code = r.1.1.0; reads_back = r.1.1.1 }
+    record { value = r.value; buffer = r.buffer; code = r.code; reads_back = r.reads_back }
 
 pub returns : goal.returns
 returns c =
@@ -26,4 +26,4 @@ returns c =
     let r = written_clauses a.s a.out.now
     (write_complete a.s a.out.now c.of_sheet.ensures.value c.in_ok-of_sheet.was
     ∙ reply_is c.write_entries.ensures.value c.write_entries.ensures.buffer) in
-    record { value = r.0; buffer = r.1.0; code = r.1.1.0; reads_back = r.1.1.1 }
+    record { value = r.value; buffer = r.buffer; code = r.code; reads_back = r.reads_back }

@@ -1,6 +1,6 @@
 -- `compression::question::bottom_stresses` meets its contract. Assumes nothing.
 use native.Mathlib.Omega.{arith}
-use Rattle.entries.proofs.FieldLaws.{tank_in_lem, site_in_lem}
+use Rattle.flaws.proofs.FieldLaws.{tank_in_lem, site_in_lem}
 use Rattle.compression.specs.Compression.{coefficient_on}
 use Rattle.compression.proofs.CompressionLaws.{bottom_in, net_in, worked_out}
 use Rattle.compression.proofs.question.bottom_stresses.Goals as goal

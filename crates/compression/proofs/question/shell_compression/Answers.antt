@@ -2,7 +2,7 @@
 use mathlib.Core.Path.{refl, ◌∙◌}
 use Rattle.fields.proofs.OrderLaws.{passed_on}
 use Rattle.sheet.proofs.CompleteLaws.{completed_valid}
-use Rattle.reports.proofs.JudgeLaws.{accepted_entries}
+use Rattle.claims.proofs.JudgeLaws.{accepted_entries}
 use Rattle.compression.proofs.CompressionLaws.{refused_first, accepted_first, compression_clauses}
 use Rattle.compression.proofs.question.shell_compression.Goals as goal
 

@@ -1,7 +1,7 @@
 -- `judge::courses::line` meets its contract. Assumes nothing.
-use Rattle.entries.proofs.FieldLaws.{tank_in_lem, course_in_lem}
-use Rattle.reports.specs.Report.{line_of}
-use Rattle.reports.proofs.FigureLaws.{head_in, need_in, required_in}
+use Rattle.flaws.proofs.FieldLaws.{tank_in_lem, course_in_lem}
+use Rattle.claims.specs.Report.{line_of}
+use Rattle.claims.proofs.FigureLaws.{head_in, need_in, required_in}
 use Rattle.judge.proofs.courses.line.Goals as goal
 
 pub need-need-requires : goal.need-need-requires

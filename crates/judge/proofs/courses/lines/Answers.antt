@@ -9,14 +9,16 @@ use Rattle.lists.specs.Pad.{padded}
 use Rattle.lists.proofs.PadLaws.{padded_next}
 use Rattle.fields.specs.Order.{clear}
 use Rattle.parts.specs.Parts.{courses_clear}
-use Rattle.entries.specs.Sheet.{blank_course, course_flaws}
+use Rattle.entries.specs.Sheet.{blank_course}
+use Rattle.flaws.specs.Flaws.{course_flaws}
 use Rattle.entries.proofs.CourseLaws.{height_next, top_within}
 use Rattle.lists.proofs.EachLaws.{each_at}
 use Rattle.sheet.specs.Complete.{courses_of}
 use Rattle.sheet.proofs.CompleteLaws.{courses_length}
-use Rattle.reports.specs.Report.{line_of, lines_of, blank_line}
+use Rattle.reports.specs.Blank.{blank_line}
+use Rattle.claims.specs.Report.{line_of, lines_of}
 use Rattle.reports.specs.declared.report.CourseLine.{CourseLine}
-use Rattle.reports.proofs.LineLaws.{lines_length, lines_next}
+use Rattle.claims.proofs.LineLaws.{lines_length, lines_next}
 use Rattle.judge.proofs.courses.lines.Goals as goal
 
 pub line-requires : goal.line-requires

@@ -3,7 +3,8 @@ use mathlib.Core.Path.{◌≡◌}
 use lib.ListN.{take}
 use Rattle.lists.specs.Pad.{padded}
 use Rattle.entries.specs.Sheet.{height_of}
-use Rattle.reports.specs.Report.{lines_of, blank_line}
+use Rattle.reports.specs.Blank.{blank_line}
+use Rattle.claims.specs.Report.{lines_of}
 use Rattle.judge.proofs.courses.lines.Given as goal
 
 abbrev pub invariant-loop-i : goal.invariant-loop-i

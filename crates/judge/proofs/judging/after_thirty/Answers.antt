@@ -1,6 +1,6 @@
 -- `judge::judging::after_thirty` meets its contract. Assumes nothing.
 use mathlib.Core.Path.{◌∙◌, sym}
-use Rattle.reports.proofs.JudgeLaws.{by_thirty, by_refused, by_other}
+use Rattle.claims.proofs.JudgeLaws.{by_thirty, by_refused, by_other}
 use Rattle.judge.proofs.judging.after_thirty.Goals as goal
 
 pub returns-in-Unreachable : goal.returns-in-Unreachable

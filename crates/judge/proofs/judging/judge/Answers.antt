@@ -2,10 +2,10 @@
 use mathlib.Core.Path.{◌∙◌, ap, sym, subst}
 use Rattle.sheet.specs.Complete.{entries_of}
 use Rattle.sheet.proofs.CompleteLaws.{entries_are, completed_valid}
-use Rattle.reports.specs.Judging.{judged_completed}
-use Rattle.reports.specs.Meets.{JustifiedBy}
-use Rattle.reports.proofs.JudgeLaws.{judged_completed_lem}
-use Rattle.reports.proofs.ClaimLaws.{completed_justified_by, judge_clauses}
+use Rattle.claims.specs.Judging.{judged_completed}
+use Rattle.claims.specs.Meets.{JustifiedBy}
+use Rattle.claims.proofs.JudgeLaws.{judged_completed_lem}
+use Rattle.claims.proofs.ClaimLaws.{completed_justified_by, judge_clauses}
 use Rattle.judge.proofs.judging.judge.Goals as goal
 
 pub judge_completed-requires : goal.judge_completed-requires

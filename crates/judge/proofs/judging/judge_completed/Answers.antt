@@ -1,8 +1,8 @@
 -- `judge::judging::judge_completed` meets its contract. Assumes nothing.
 use mathlib.Core.Path.{◌∙◌, ap, sym}
 use Rattle.std.specs.Prelude.{Err}
-use Rattle.reports.proofs.JudgeLaws.{with_report, without_report}
-use Rattle.reports.proofs.ClaimLaws.{completed_clauses}
+use Rattle.claims.proofs.JudgeLaws.{with_report, without_report}
+use Rattle.claims.proofs.ClaimLaws.{completed_clauses}
 use Rattle.reports.specs.declared.report.Report.{Report}
 use Rattle.judge.proofs.judging.judge_completed.Goals as goal
 

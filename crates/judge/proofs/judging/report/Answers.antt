@@ -3,12 +3,13 @@ use mathlib.Core.Path.{◌≡◌, ◌∙◌}
 use native.Mathlib.Omega.{arith}
 use lib.ListN.{length}
 use Rattle.lists.proofs.PadLaws.{take_padded}
-use Rattle.entries.proofs.FieldLaws.{tank_in_lem, site_in_lem}
+use Rattle.flaws.proofs.FieldLaws.{tank_in_lem, site_in_lem}
 use Rattle.sheet.specs.Complete.{courses_of}
 use Rattle.sheet.proofs.CompleteLaws.{courses_length}
-use Rattle.reports.specs.Report.{lines_of, blank_line, report_of}
-use Rattle.reports.proofs.LineLaws.{lines_length}
-use Rattle.reports.proofs.FigureLaws.{pressure_in, moment_in}
+use Rattle.reports.specs.Blank.{blank_line}
+use Rattle.claims.specs.Report.{lines_of, report_of}
+use Rattle.claims.proofs.LineLaws.{lines_length}
+use Rattle.claims.proofs.FigureLaws.{pressure_in, moment_in}
 use Rattle.judge.proofs.judging.report.Goals as goal
 
 pub pressure-pressure-requires : goal.pressure-pressure-requires

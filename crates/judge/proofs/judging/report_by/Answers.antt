@@ -1,7 +1,7 @@
 -- `judge::judging::report_by` meets its contract. Assumes nothing.
 use mathlib.Core.Path.{◌∙◌, ap}
 use Rattle.std.specs.Prelude.{Ok}
-use Rattle.reports.proofs.JudgeLaws.{judge_above, judge_done}
+use Rattle.claims.proofs.JudgeLaws.{judge_above, judge_done}
 use Rattle.judge.proofs.judging.report_by.Goals as goal
 
 pub returns-then-e : goal.returns-then-e

@@ -1,8 +1,8 @@
 -- `judge::judging::report_for` meets its contract. Assumes nothing.
 use mathlib.Core.Path.{◌∙◌, ap, sym}
 use Rattle.fields.proofs.OrderLaws.{passed_on}
-use Rattle.reports.specs.Judging.{report_for}
-use Rattle.reports.proofs.JudgeLaws.{by_entries, by_other_entries}
+use Rattle.claims.specs.Judging.{report_for}
+use Rattle.claims.proofs.JudgeLaws.{by_entries, by_other_entries}
 use Rattle.judge.proofs.judging.report_for.Goals as goal
 
 pub returns-in_err-try_from-in-Ok : goal.returns-in_err-try_from-in-Ok

@@ -1,8 +1,8 @@
 -- `judge::standing::resistance` meets its contract. Assumes nothing.
 use native.Mathlib.Omega.{arith}
-use Rattle.entries.proofs.FieldLaws.{tank_in_lem, site_in_lem}
-use Rattle.reports.specs.Figures.{resistance_on}
-use Rattle.reports.proofs.FigureLaws.{net_most, shell_in, bottom_in}
+use Rattle.flaws.proofs.FieldLaws.{tank_in_lem, site_in_lem}
+use Rattle.claims.specs.Figures.{resistance_on}
+use Rattle.claims.proofs.FigureLaws.{net_most, shell_in, bottom_in}
 use Rattle.judge.proofs.standing.resistance.Goals as goal
 
 pub shell_weight-shell-requires : goal.shell_weight-shell-requires

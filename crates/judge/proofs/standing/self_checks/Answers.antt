@@ -1,7 +1,7 @@
 -- `judge::standing::self_checks` meets its contract. Assumes nothing.
-use Rattle.entries.proofs.FieldLaws.{tank_in_lem}
-use Rattle.reports.specs.Report.{self_checks}
-use Rattle.reports.proofs.FigureLaws.{resistance_in, resistance_some}
+use Rattle.flaws.proofs.FieldLaws.{tank_in_lem}
+use Rattle.claims.specs.Report.{self_checks}
+use Rattle.claims.proofs.FigureLaws.{resistance_in, resistance_some}
 use Rattle.judge.proofs.standing.self_checks.Goals as goal
 
 pub self_wind-wind-requires : goal.self_wind-wind-requires

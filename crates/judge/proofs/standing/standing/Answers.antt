@@ -1,6 +1,6 @@
 -- `judge::standing::standing` meets its contract. Assumes nothing.
 use borrow.Author.Tests.{eq-eqb, ne_eqb}
-use Rattle.reports.specs.Report.{standing_of}
+use Rattle.claims.specs.Report.{standing_of}
 use Rattle.judge.proofs.standing.standing.Goals as goal
 
 pub returns-then-e-eq0 : goal.returns-then-e-eq0

@@ -6,7 +6,7 @@ use native.Mathlib.Omega.{arith}
 use lib.ListN.{length-set}
 use borrow.Author.Tests.{ltb-false}
 use Rattle.fields.proofs.OrderLaws.{first_append, first_cons, passed_on}
-use Rattle.entries.specs.Sheet.{too_high, course_flaws}
+use Rattle.flaws.specs.Flaws.{too_high, course_flaws}
 use Rattle.entries.proofs.CourseLaws.{height_set}
 use Rattle.sheet.specs.Reading.{with_height}
 use Rattle.sheet.proofs.ReadLaws.{course_refused, course_accepted}

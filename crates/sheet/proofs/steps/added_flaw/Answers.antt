@@ -6,7 +6,7 @@ use lib.Dec.{ltb}
 use Rattle.fields.specs.declared.refusal.Refusal.TheVariants.{ShellTooHigh}
 use Rattle.fields.specs.Order.{◌when◌, first_of}
 use Rattle.fields.proofs.OrderLaws.{first_then, passed_on}
-use Rattle.entries.specs.Sheet.{too_high, course_flaws}
+use Rattle.flaws.specs.Flaws.{too_high, course_flaws}
 use Rattle.sheet.proofs.steps.added_flaw.Goals as goal
 
 pub returns-in_err-course_flaw : goal.returns-in_err-course_flaw

@@ -1,0 +1,1 @@
+"""What is tried: the stored vectors, made with the model's answers."""

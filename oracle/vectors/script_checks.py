@@ -1,0 +1,74 @@
+"""What is checked of the outcomes of any script, record by record."""
+
+from model import sheet_bytes
+from model.filling_in import EMPTY, left_by_a_run, left_by_description
+from model.sheet_bytes import bytes_as_figures
+from vectors.record_answers import lent_buffer
+from vectors.records import (
+    ASKING, COMPRESSION, COMPRESSION_HELD, FORGE, JUDGE, JUDGE_HELD, JUDGING, OPENING, READ, WRITE,
+    forge,
+)
+
+# --- Checks of any script -----------------------------------------------------
+
+
+def check_read_and_write(content, result):
+    """Reading then writing accepted bytes gives the same bytes, and they state anchors."""
+    if result.word == "ok":
+        written = sheet_bytes.write(result.sheet, bytes(len(content)))
+        assert written == (None, len(content), content)
+        assert result.sheet.anchors is not None
+    else:
+        assert result.sheet == EMPTY
+
+
+def check_write(record, result):
+    """Writing then reading gives the same sheet; a refused write leaves the buffer."""
+    if result.word.startswith("refused"):
+        lent = lent_buffer(*bytes_as_figures(record.payload))
+        assert result.text == f" buffer {lent.hex()}"
+    else:
+        said, number = result.word.split()
+        buffer = bytes.fromhex(result.text.removeprefix(" buffer "))
+        assert said == "wrote" and sheet_bytes.read(buffer[:int(number)]) == (None, result.sheet)
+
+
+def check_judged(before, record, result):
+    """Judging and asking leave the current sheet as it is; the held one is that one."""
+    assert result.sheet == before
+    if record.opcode in (JUDGE_HELD, COMPRESSION_HELD):
+        assert (result.judged or result.asked).sheet == before
+
+
+def check_unstated(before, record, result):
+    """38 is said of a sheet whose anchors are unstated, and by these records alone."""
+    question = result.judged or result.asked
+    about = before if question is None else question.sheet
+    assert about.anchors is None
+    assert record.opcode in (WRITE, JUDGE, JUDGE_HELD, COMPRESSION, COMPRESSION_HELD)
+
+
+def check_outcome(before, record, result):
+    assert left_by_a_run(result.sheet) == left_by_description(result.sheet)
+    if record.opcode == FORGE:
+        assert forge(result.sheet) == record
+    if record.opcode == READ:
+        check_read_and_write(record.payload, result)
+    elif result.word.startswith("refused"):
+        assert result.sheet == before
+    if record.opcode == WRITE:
+        check_write(record, result)
+    if record.opcode in JUDGING + ASKING:
+        check_judged(before, record, result)
+    if record.opcode not in OPENING:
+        assert before.anchors is None or result.sheet.anchors is not None
+    if result.word == "refused 38":
+        check_unstated(before, record, result)
+
+
+def check_outcomes(records, results):
+    """Of records that follow each other, the first of which sets the current sheet."""
+    sheet = None
+    for record, result in zip(records, results, strict=True):
+        check_outcome(sheet, record, result)
+        sheet = result.sheet
