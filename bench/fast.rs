@@ -75,38 +75,39 @@ fn figures<const N: usize>(bytes: &[u8]) -> [u32; N] {
     std::array::from_fn(|i| u32::from_be_bytes([bytes[4 * i], bytes[4 * i + 1], bytes[4 * i + 2], bytes[4 * i + 3]]))
 }
 
-fn count(bytes: &[u8]) -> Result<usize, Refusal> {
+/// The number of courses, the version, and where its site begins.
+fn version(bytes: &[u8]) -> Result<(usize, u8, usize), Refusal> {
     if bytes.len() < 2 {
         return Err((11, 0));
     }
     let length = u16::from_be_bytes([bytes[0], bytes[1]]) as usize;
-    let n = length.saturating_sub(58) / 20;
+    let Some((n, number, site)) = rules::version(length) else { return Err((13, 0)) };
     match () {
-        _ if n < 1 || n > 12 || length != 58 + 20 * n => Err((13, 0)),
         _ if bytes.len() < 2 + length => Err((11, 0)),
         _ if bytes.len() > 2 + length => Err((12, 0)),
-        _ if bytes[2] != 1 => Err((14, 0)),
-        _ if bytes[59] as usize != n => Err((15, 0)),
-        _ => Ok(n),
+        _ if bytes[2] != number => Err((14, 0)),
+        _ if bytes[site + 32] as usize != n => Err((15, 0)),
+        _ => Ok((n, number, site)),
     }
 }
 
 /// In one go over the bytes; where a later course is refused, the refusal is stored over the lines before it.
 fn report(bytes: &[u8], mut at: Place) -> Result<Place, Refusal> {
-    let n = count(bytes)?;
-    let (tank, site, anchors) = (figures(&bytes[3..]), figures(&bytes[27..]), figures(&bytes[47..]));
+    let (n, number, tail) = version(bytes)?;
+    let tank = rules::with_gravity(figures(&bytes[3..]), number);
+    let (site, anchors) = (figures(&bytes[tail..]), figures(&bytes[tail + 20..]));
     rules::tank(tank)?;
     rules::site(site)?;
     rules::anchors(tank[0], anchors)?;
-    let [d, h, w, plate, allowance, fy] = tank.map(u64::from);
+    let [d, h, w, plate, allowance, fy, g] = tank.map(u64::from);
     let [v, kz, i, av, ms] = site.map(u64::from);
     let mut sound = true;
     let mut height = 0;
-    for (i, part) in bytes[60..60 + 20 * n].chunks_exact(20).enumerate() {
+    for (i, part) in bytes[tail + 33..tail + 33 + 20 * n].chunks_exact(20).enumerate() {
         let course = figures(part);
         rules::course(course)?;
         let [width, plate, c, s, e] = course.map(u64::from);
-        let need = rules::need(h.saturating_sub(height), d, s, e);
+        let need = rules::need(h.saturating_sub(height), d, g, s, e);
         let required = rules::required(need, c, d);
         height += width;
         if height > 76_800 {
@@ -130,7 +131,7 @@ fn report(bytes: &[u8], mut at: Place) -> Result<Place, Refusal> {
     at = figure(at, p);
     at = figure(at, m);
     if anchors[0] == 0 {
-        let t = rules::resistance(d, w, av, plate - allowance, fy, h);
+        let t = rules::resistance(d, w, av, plate - allowance, fy, h, g);
         let (wind, lift) = (rules::self_wind(m, w, d), rules::lift(ms, t));
         at = word(at, b"\nself wind");
         at = verdict(at, wind);

@@ -6,7 +6,7 @@ mod rules;
 use rules::Refusal;
 
 struct Sheet {
-    tank: [u32; 6],
+    tank: [u32; 7],
     site: [u32; 5],
     anchors: [u32; 3],
     courses: Vec<[u32; 5]>,
@@ -39,33 +39,30 @@ fn figures<const N: usize>(bytes: &[u8]) -> [u32; N] {
 fn read(bytes: &[u8]) -> Result<Sheet, Refusal> {
     let Some(length) = bytes.first_chunk() else { return Err((11, 0)) };
     let length = u16::from_be_bytes(*length) as usize;
-    let n = length.saturating_sub(58) / 20;
-    if !(1..=12).contains(&n) || length != 58 + 20 * n {
-        return Err((13, 0));
-    }
+    let Some((n, number, site)) = rules::version(length) else { return Err((13, 0)) };
     if bytes.len() < 2 + length {
         return Err((11, 0));
     }
     if bytes.len() > 2 + length {
         return Err((12, 0));
     }
-    if bytes[2] != 1 {
+    if bytes[2] != number {
         return Err((14, 0));
     }
-    if bytes[59] as usize != n {
+    if bytes[site + 32] as usize != n {
         return Err((15, 0));
     }
     let mut sheet = Sheet {
-        tank: figures(&bytes[3..]),
-        site: figures(&bytes[27..]),
-        anchors: figures(&bytes[47..]),
+        tank: rules::with_gravity(figures(&bytes[3..]), number),
+        site: figures(&bytes[site..]),
+        anchors: figures(&bytes[site + 20..]),
         courses: Vec::new(),
         height: 0,
     };
     rules::tank(sheet.tank)?;
     rules::site(sheet.site)?;
     rules::anchors(sheet.tank[0], sheet.anchors)?;
-    for part in bytes[60..].chunks(20) {
+    for part in bytes[site + 33..].chunks(20) {
         let course = figures(part);
         rules::course(course)?;
         sheet.height += course[0];
@@ -78,7 +75,7 @@ fn read(bytes: &[u8]) -> Result<Sheet, Refusal> {
 }
 
 fn judge(sheet: &Sheet) -> Result<Report, Refusal> {
-    let [d, h, w, plate, allowance, fy] = sheet.tank.map(u64::from);
+    let [d, h, w, plate, allowance, fy, g] = sheet.tank.map(u64::from);
     let [v, kz, i, av, ms] = sheet.site.map(u64::from);
     let [n, b, _] = sheet.anchors.map(u64::from);
     if h > sheet.height as u64 {
@@ -88,14 +85,14 @@ fn judge(sheet: &Sheet) -> Result<Report, Refusal> {
     let mut edge = 0;
     for &course in &sheet.courses {
         let [width, _, c, s, e] = course.map(u64::from);
-        let need = rules::need(h.saturating_sub(edge), d, s, e);
+        let need = rules::need(h.saturating_sub(edge), d, g, s, e);
         lines.push(Line { need, required: rules::required(need, c, d), plate: course[1] });
         edge += width;
     }
     let pressure = rules::pressure(kz, i, v);
     let moment = rules::moment(pressure, d, sheet.height as u64);
     let standing = if n == 0 {
-        let resistance = rules::resistance(d, w, av, plate - allowance, fy, h);
+        let resistance = rules::resistance(d, w, av, plate - allowance, fy, h, g);
         Standing::SelfAnchored { wind: rules::self_wind(moment, w, d), resistance, lift: rules::lift(ms, resistance) }
     } else {
         let wind = rules::pull(moment, rules::whole_weight(w), b, n);

@@ -1,30 +1,55 @@
-//! The rules of document 01, with S-5 and S-7 of document 02, for both programs: ranges, what a step's figures are refused for,
-//! and the figures of a report.
+//! The rules of document 01, with S-5, S-7 and S-8 of document 02, for both programs: ranges, what a step's figures are refused for,
+//! the versions of a sheet's bytes, and the figures of a report.
 
 /// The ends of each field's range, by the field's number; 0 is no field.
-pub const RANGES: [(u32, u32); 20] = [
+pub const RANGES: [(u32, u32); 21] = [
     (1, 0), (12_000, 240_000), (1_200, 76_800), (1, 10_000_000), (100, 500), (0, 250), (30_000, 50_000),
     (60, 150), (50, 150), (100, 125), (0, 500), (0, 1_000_000_000), (6, 200), (0, 300_000), (0, 16),
-    (1_200, 14_400), (100, 2_000), (0, 250), (10_000, 40_000), (50, 100),
+    (1_200, 14_400), (100, 2_000), (0, 250), (10_000, 40_000), (50, 100), (1_000, 1_300),
 ];
 
 /// A refusal's number, and its field or 0.
 pub type Refusal = (u32, u32);
 
 #[inline(always)]
+fn in_range(field: usize, x: u32) -> Result<(), Refusal> {
+    let (least, most) = RANGES[field];
+    if (x < least || most < x) && !(field == 12 && x == 0) { Err((16, field as u32)) } else { Ok(()) }
+}
+
+#[inline(always)]
 fn in_ranges<const N: usize>(first: usize, figures: [u32; N]) -> Result<(), Refusal> {
     for (field, x) in (first..).zip(figures) {
-        let (least, most) = RANGES[field];
-        if (x < least || most < x) && !(field == 12 && x == 0) {
-            return Err((16, field as u32));
-        }
+        in_range(field, x)?;
     }
     Ok(())
 }
 
+/// By L, the number of courses and the version: each version's byte, and where its site begins.
 #[inline(always)]
-pub fn tank(f: [u32; 6]) -> Result<(), Refusal> {
-    in_ranges(1, f)?;
+pub fn version(length: usize) -> Option<(usize, u8, usize)> {
+    for (number, site) in [(1, 27), (2, 31)] {
+        let n = (length + 2).saturating_sub(site + 33) / 20;
+        if (1..=12).contains(&n) && length + 2 == site + 33 + 20 * n {
+            return Some((n, number, site));
+        }
+    }
+    None
+}
+
+/// In version 1 the site follows where the gravity stands in version 2.
+#[inline(always)]
+pub fn with_gravity(mut tank: [u32; 7], number: u8) -> [u32; 7] {
+    if number == 1 {
+        tank[6] = 1_000;
+    }
+    tank
+}
+
+#[inline(always)]
+pub fn tank(f: [u32; 7]) -> Result<(), Refusal> {
+    in_ranges::<6>(1, *f.first_chunk().unwrap())?;
+    in_range(20, f[6])?;
     if f[3] <= f[4] { Err((17, 0)) } else { Ok(()) }
 }
 
@@ -64,8 +89,8 @@ pub fn stress_area(size: u32) -> u64 {
 }
 
 #[inline(always)]
-pub fn need(head: u64, d: u64, s: u64, e: u64) -> u64 {
-    5 * (13 * head * d).div_ceil(5 * 72 * s * e)
+pub fn need(head: u64, d: u64, g: u64, s: u64, e: u64) -> u64 {
+    5 * (13 * head * d * g).div_ceil(5 * 72_000 * s * e)
 }
 
 #[inline(always)]
@@ -87,9 +112,9 @@ pub fn self_wind(m: u64, w: u64, d: u64) -> bool {
 }
 
 /// T, in foot-pounds; `tb` is the bottom plate less its allowance.
-pub fn resistance(d: u64, w: u64, av: u64, tb: u64, fy: u64, h: u64) -> u64 {
+pub fn resistance(d: u64, w: u64, av: u64, tb: u64, fy: u64, h: u64, g: u64) -> u64 {
     let wt = 2_712_000 * w * (10_000 - 4 * av) / (710_000 * d);
-    let wl = (6_241 * tb * tb * fy * h / 12_000_000).isqrt().min(h * d / 11_250);
+    let wl = (6_241 * tb * tb * (fy * g / 1_000) * h / 12_000_000).isqrt().min(h * d * g / 11_250_000);
     d * d * (wt + wl) / 144_000_000
 }
 

@@ -4,7 +4,7 @@ python3 oracle make           writes what the programs read and are to write, be
                               replies in the files of cases/
 python3 oracle check          makes the same again and compares it with what is stored
 python3 oracle groups         lists which records, lines and sheets each group has
-python3 oracle sheet FIGURES  writes the bytes of the sheet with these figures
+python3 oracle sheet FIGURES  writes the bytes, of version 2, of the sheet with these figures
 python3 oracle ask FIGURES    writes the record that asks about compression, by D100, on that sheet
 python3 oracle text SHEET     writes what the marker is to print for these bytes
 python3 oracle try PROGRAM    runs the built marker on inputs fed in unusual ways
@@ -19,19 +19,22 @@ sys.dont_write_bytecode = True
 from pathlib import Path
 
 from model import (
-    arithmetic, as_printed, compression, demand_3, fields, filling_in, ground, judging, printing,
-    refusals, sheet_bytes, tank_rules,
+    arithmetic, as_printed, compression, demand_3, demand_3_liquor, fields, filling_in, ground,
+    judging, printing, refusals, sheet_bytes, tank_rules,
 )
 from vectors import (
-    case_files, case_vectors, compression_groups, current_sheet_groups, figure_lines, judge_groups,
-    judge_later_groups, leaf_lines, marker_groups, marker_tries, need_points, steps_groups, stored_files,
+    case_files, case_vectors, compression_groups, compression_later_groups, current_sheet_groups,
+    figure_lines, judge_groups, judge_later_groups, leaf_lines, leaf_liquor, liquor_points,
+    marker_groups, marker_tries, need_points, steps_groups, steps_later_groups, stored_files,
 )
 
 ROOT = Path(__file__).resolve().parent.parent
 QUICK = (fields, refusals, arithmetic, tank_rules, as_printed, ground, filling_in, sheet_bytes,
-         judging, demand_3, compression, printing, need_points, figure_lines, marker_tries)
-VECTORS = (case_vectors, leaf_lines, steps_groups, judge_groups, current_sheet_groups,
-           compression_groups, judge_later_groups, marker_groups)
+         judging, demand_3, demand_3_liquor, compression, printing, need_points,
+         liquor_points, figure_lines, marker_tries)
+VECTORS = (case_vectors, leaf_lines, leaf_liquor, steps_groups, judge_groups, current_sheet_groups,
+           compression_groups, judge_later_groups, steps_later_groups, compression_later_groups,
+           marker_groups)
 
 # --- make, check and groups ---------------------------------------------------
 

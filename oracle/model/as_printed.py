@@ -23,7 +23,7 @@ def whole(digits):
 def check_ranges(text):
     """Those that document 01 has; a later request may add others."""
     rows = RANGE.findall(text)
-    assert len(rows) == 19
+    assert len(rows) == 19      # field 20 is S-8's
     for number, or_none, least, greatest in rows:
         field = int(number)
         assert FIELD_RANGES[field] == (whole(least), whole(greatest)), field

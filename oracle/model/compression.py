@@ -5,7 +5,8 @@ document that the request names, 003 (AWWA D100-11: Eq 13-39, 13-41 and 13-47 to
 3.4.3.1.1 for F_L). Every figure is an exact Fraction in D100's units: feet, inches, pounds, psi.
 Three of them are rounded: the coefficient's argument, down to a ten-thousandth; the stress, up to
 a psi; the allowed stress, down to a psi. Of the method (S-3), which is handed in as in judging,
-the figures know nothing. Document 01's letters, but that t is a plate net of its allowance.
+the figures know nothing. With S-8 the water's pressure is multiplied by gravity. Document 01's
+letters, but that t is a plate net of its allowance.
 """
 
 from fractions import Fraction
@@ -13,8 +14,10 @@ from math import ceil, floor
 from typing import NamedTuple
 
 from model import judging
+from model.fields import WATER
 from model.filling_in import EMPTY, EXAMPLE, SELF_ANCHORED
 from model.refusals import API_650, D100
+from model.tank_rules import times_water
 
 # --- Units of the fields, in those of D100 ------------------------------------
 
@@ -38,6 +41,8 @@ def part_of_g(Av):
 # --- The stress: Eq 13-39 and 13-41 -------------------------------------------
 
 CIRCLE = Fraction(355, 113)
+OF_ACCELERATION = Fraction("0.4")
+OF_MOMENT = Fraction("1.273")
 
 
 def weight_on_rim(W, D):
@@ -46,8 +51,8 @@ def weight_on_rim(W, D):
 
 
 def exact_stress(W, Av, Ms, D, t):
-    vertical = 1 + Fraction("0.4") * part_of_g(Av)
-    by_moment = Fraction("1.273") * Ms / feet(D) ** 2
+    vertical = 1 + OF_ACCELERATION * part_of_g(Av)
+    by_moment = OF_MOMENT * Ms / feet(D) ** 2
     return (weight_on_rim(W, D) * vertical + by_moment) / (12 * inches_thick(t))
 
 
@@ -81,7 +86,7 @@ def branch(t, D):
 
 
 F_L = {     # of t / R
-    "elastic": lambda ratio: Fraction("17.5") * 10**5 * ratio * (1 + 50_000 * ratio**2),
+    "elastic": lambda ratio: 175 * 10**4 * ratio * (1 + 50_000 * ratio**2),    # 17.5 x 10^5
     "inelastic": lambda ratio: 5_775 + 738 * 10**3 * ratio,
     "plastic": lambda _ratio: Fraction(15_000),
 }
@@ -95,23 +100,24 @@ def local_buckling(t, D):
 # --- The coefficient: Eq 13-50 and the house rule -----------------------------
 
 MODULUS = 29_000_000
+PSI_BY_FOOT = Fraction("0.433")         # of water
 ARGUMENT_PARTS = 10_000         # an entry's place is told in these
 COEFFICIENT_PARTS = 100_000     # and the entry in these
 LAST_ENTRY = 640                # for 0.0640
 
 
-def pressure(H):
+def pressure(H, gravity):
     """P, at the bottom."""
-    return Fraction("0.433") * feet(H)
+    return PSI_BY_FOOT * times_water(gravity) * feet(H)
 
 
-def exact_argument(H, D, t):
-    return pressure(H) / MODULUS / slenderness(t, D) ** 2
+def exact_argument(H, D, t, gravity=WATER):
+    return pressure(H, gravity) / MODULUS / slenderness(t, D) ** 2
 
 
-def argument(H, D, t):
+def argument(H, D, t, gravity=WATER):
     """In ten-thousandths, not limited."""
-    return floor(ARGUMENT_PARTS * exact_argument(H, D, t))
+    return floor(ARGUMENT_PARTS * exact_argument(H, D, t, gravity))
 
 
 def within_power_rule(coefficient, of_argument):
@@ -149,6 +155,9 @@ def entry(i):
 # --- The allowed stress: Eq 13-47 to 13-49 ------------------------------------
 
 
+SEISMIC = Fraction("1.333")
+
+
 def pressure_help(t, D, coefficient):
     """Half of Eq 13-49: the safety factor is 2.0."""
     return coefficient * MODULUS * slenderness(t, D) / 2
@@ -157,7 +166,7 @@ def pressure_help(t, D, coefficient):
 def exact_allowed(t, D, e):
     """Eq 13-47; with e of 0 it is Eq 13-48."""
     coefficient = Fraction(e, COEFFICIENT_PARTS)
-    return Fraction("1.333") * (local_buckling(t, D) + pressure_help(t, D, coefficient))
+    return SEISMIC * (local_buckling(t, D) + pressure_help(t, D, coefficient))
 
 
 def allowed(t, D, e):
@@ -176,15 +185,16 @@ class Figures(NamedTuple):
     H: int
     t: int              # of the bottom course, net of its own allowance
     anchored: bool
+    gravity: int = WATER
 
     def exact_stress(self):
         return exact_stress(self.W, self.Av, self.Ms, self.D, self.t)
 
     def argument(self):
-        return argument(self.H, self.D, self.t)
+        return argument(self.H, self.D, self.t, self.gravity)
 
     def exact_argument(self):
-        return exact_argument(self.H, self.D, self.t)
+        return exact_argument(self.H, self.D, self.t, self.gravity)
 
     def coefficient(self):
         """ "Anchored tanks get no pressure help"."""
@@ -200,7 +210,8 @@ class Figures(NamedTuple):
 def figures_of(sheet):
     tank, site, bottom_course = sheet.tank, sheet.site, sheet.courses[0]
     return Figures(W=tank.W, Av=site.Av, Ms=site.Ms, D=tank.D, H=tank.H,
-                   t=bottom_course.t - bottom_course.c, anchored=sheet.anchors.N > 0)
+                   t=bottom_course.t - bottom_course.c, anchored=sheet.anchors.N > 0,
+                   gravity=tank.gravity)
 
 
 class Reply(NamedTuple):
@@ -256,7 +267,7 @@ def within_printed(figures, reply):
     """ "The allowed stress is never above the printed equations up to 0.0640": the coefficient
     that would give just this allowed stress is at most Eq 13-50's. An anchored tank has none."""
     without = local_buckling(figures.t, figures.D)
-    helped = reply.allowed / Fraction("1.333") - without
+    helped = reply.allowed / SEISMIC - without
     if figures.anchored:
         return helped <= 0
     of_argument = figures.exact_argument()
@@ -272,8 +283,8 @@ def whole_stress(W, Av, Ms, D, t):
     return -(-8 * (113 * W * (2_500 + Av) * D + 1_355_745_000 * Ms) // (71 * t * D * D))
 
 
-def whole_argument(H, D, t):
-    return 433 * H * D * D // (139_200_000 * t * t)
+def whole_argument(H, D, t, gravity=WATER):
+    return 433 * H * D * D * gravity // (139_200_000_000 * t * t)
 
 
 def whole_allowed(t, D, e):
@@ -286,8 +297,8 @@ def whole_allowed(t, D, e):
 
 
 def same_in_whole_numbers(figures, reply):
-    W, Av, Ms, D, H, t, anchored = figures      # compression's own, not a sheet's
-    i = whole_argument(H, D, t)
+    W, Av, Ms, D, H, t, anchored, gravity = figures      # compression's own, not a sheet's
+    i = whole_argument(H, D, t, gravity)
     e = 0 if anchored else CHART[i] if i < LAST_ENTRY else MOST_COEFFICIENT
     return (i, e) == (figures.argument(), figures.coefficient()) \
         and reply.stresses() == (whole_stress(W, Av, Ms, D, t), whole_allowed(t, D, e))
@@ -328,7 +339,7 @@ def check_chart():
 def check_example():
     """186.71, 11,113.89 and 13,632.63 psi before rounding."""
     figures = figures_of(EXAMPLE)
-    assert figures == (11_000, 27, 30_000, 14_400, 28_800, 250, True)
+    assert figures == (11_000, 27, 30_000, 14_400, 28_800, 250, True, 1_000)
     assert ask(EXAMPLE, D100) == (None, (187, 11_113, True))
     standing = EXAMPLE._replace(anchors=SELF_ANCHORED)
     assert ask(standing, API_650) == (None, (187, 13_632, True))
@@ -337,6 +348,28 @@ def check_example():
     W = Fraction("294.5153") * CIRCLE * 12
     found = exact_stress(W, Fraction("89.6"), Fraction("108614.2967"), 14_400, 250)
     assert abs(found - Fraction("421.7504")) < Fraction(1, 1_000)
+
+
+def check_gravity():
+    """0.433 x 24 ft x 1.3 is 13.5096 psi. t / R is 1 / 288, so that the argument is 297.2 ten-
+    thousandths by water and 386.4 with gravity 1,300; F_L is 8,337.5, and with half of 0.04678 x
+    29,000,000 / 288 it is 10,692.7 psi, of which 1.333 make 14,253.4. The stress stays."""
+    point = 28_800, 14_400, 250
+    assert exact_argument(*point, 1_300) == exact_argument(*point) * Fraction("1.3")
+    assert [argument(*point, gravity) for gravity in (1_000, 1_137, 1_300)] == [297, 337, 386]
+    heavier = EXAMPLE._replace(tank=EXAMPLE.tank._replace(gravity=1_300))
+    assert ask(heavier, D100) == ask(EXAMPLE, D100)         # anchored: no pressure help
+    standing = heavier._replace(anchors=SELF_ANCHORED)
+    assert entry(386) == 4_678 and ask(standing, D100) == (None, (187, 14_253, True))
+    # 785 x 110,571 is 86,798,235: with water 74,297 is the last moment without lift
+    for Ms, refusal in ((74_298, None), (86_798, None), (86_799, (43, 0))):
+        shaken = standing._replace(site=EXAMPLE.site._replace(Ms=Ms))
+        assert ask(shaken, D100).refusal == refusal
+    # 0.0640 exactly, by 37,671 of water: 1.3 times as heavy, as much is had by 28,977.7
+    assert [argument(H, 32_000, 433, 1_300) for H in (28_977, 28_978)] == [639, 640]
+    # past 64 bits on the way: 433 x 76,800 x 240,000 squared x 1,300 is above 2 to the 64th
+    assert argument(76_800, 240_000, 1, 1_300) == 433 * 76_800 * 240_000**2 * 13 // 1_392_000_000
+    assert same_in_whole_numbers(figures_of(standing), ask(standing, D100).reply)
 
 
 def check_refusals():
@@ -353,4 +386,5 @@ def self_test():
     check_f_l()
     check_chart()
     check_example()
+    check_gravity()
     check_refusals()

@@ -1,19 +1,36 @@
 """Demand 3 in fractions: document 01's paragraph of that name, and the mission's margins.
 
-With S-3, S-5 and S-7. `meets` takes the fields only, nothing of the report and nothing that is
-rounded; `borne_out` is the claim about the sheet judged and the word on it.
+With S-3, S-5, S-7 and S-8. `meets` takes the fields only, nothing of the report and nothing that is
+rounded but S-8's yield; `borne_out` is the claim about the sheet judged and the word on it. Of S-8
+the self test is demand_3_liquor.py's.
 """
 
 from fractions import Fraction
+from functools import cache
 from typing import NamedTuple
 
 from model.fields import Anchors
 from model.filling_in import EXAMPLE, SELF_ANCHORED, sheet_of, shell_height
 from model.judging import bottom_edges, judge, word
 from model.refusals import API_650, D100, METHODS
-from model.tank_rules import BOLT_CHART, house_floor
+from model.tank_rules import BOLT_CHART, house_floor, times_water, yield_in_root
 
 # --- "Demand 3 in fractions" --------------------------------------------------
+
+
+class Liquor(NamedTuple):
+    """What the gravity of a tank comes to in demand 3."""
+    of_need: Fraction       # what the need is multiplied by
+    of_cap: Fraction        # and the cap on wL
+    yield_stress: int       # in wL's root, rounded
+
+
+@cache
+def liquor_in(tank):
+    """S-8: demand 3's rules "take the need, the cap and this yield in the same way, the yield alone
+    being rounded". The yield is the report's own."""
+    heavier = times_water(tank.gravity)
+    return Liquor(heavier, heavier, yield_in_root(tank.Fy, tank.gravity))
 
 
 class Margins(NamedTuple):
@@ -38,18 +55,18 @@ def given_margins(sheet):
 
 
 def exact_need(method, h, D, s, E):
-    """Document 01's fraction or, as S-3 has it, 2.6 D (h - 1 ft) / (s E) in feet and inches; S-7's
-    steps are rounding, of which demand 3 has none."""
+    """By water: document 01's fraction or, as S-3 has it, 2.6 D (h - 1 ft) / (s E) in feet and
+    inches; S-7's steps are rounding, of which the need has none here."""
     if method == D100:
         return Fraction(13 * h * D, 72 * s * E)
     feet = max(Fraction(h, 1_200) - 1, 0)
     return Fraction("2.6") * Fraction(D, 1_200) * feet / (s * Fraction(E, 100)) * 1_000
 
 
-def courses_meet(sheet, method, margins):
+def courses_meet(sheet, method, margins, liquor):
     D, H = sheet.tank.D, sheet.tank.H
     for edge, course in bottom_edges(sheet):
-        need = exact_need(method, max(H - edge, 0), D, course.s, course.E)
+        need = exact_need(method, max(H - edge, 0), D, course.s, course.E) * liquor.of_need
         if course.t < house_floor(D) or course.t < need + margins.plate + course.c:
             return False
     return True
@@ -62,19 +79,19 @@ def exact_wind_moment(sheet, margins):
     return p * D * Hs * Hs / 345_600_000_000 + margins.moment
 
 
-def self_anchored_meets(sheet, margins):
-    """The root of wL is compared by squares."""
-    D, H, W, Fy = sheet.tank.D, sheet.tank.H, sheet.tank.W, sheet.tank.Fy
+def self_anchored_meets(sheet, margins, liquor):
+    """The root of wL is compared by squares; S-8: "the margin is measured from that yield"."""
+    D, H, W = sheet.tank.D, sheet.tank.H, sheet.tank.W
     Av, Ms = sheet.site.Av, sheet.site.Ms
     tb = sheet.tank.plate - sheet.tank.allowance
     wt = Fraction(2_712_000 * W * (10_000 - 4 * Av), 710_000 * D)
     x = 144_000_000 * (Fraction(1_000 * Ms, 1_540) + margins.resistance) / (D * D) - wt
     return 3_600 * exact_wind_moment(sheet, margins) <= W * D \
-        and x <= Fraction(H * D, 11_250) \
-        and (x <= 0 or 12_000_000 * x * x <= 6_241 * tb * tb * Fy * H)
+        and x <= Fraction(H * D, 11_250) * liquor.of_cap \
+        and (x <= 0 or 12_000_000 * x * x <= 6_241 * tb * tb * liquor.yield_stress * H)
 
 
-def anchored_meets(sheet, margins):
+def anchored_meets(sheet, margins, _liquor):
     """S-5: "the reduced weight, unrounded, for Ms, and W as before for M"."""
     W, N, B = sheet.tank.W, sheet.anchors.N, sheet.anchors.B
     reduced = Fraction(W * (10_000 - 4 * sheet.site.Av), 10_000)
@@ -85,17 +102,19 @@ def anchored_meets(sheet, margins):
         and all(1_000 * pull <= 19_950 * BOLT_CHART[sheet.anchors.d] for pull in pulls)
 
 
-def meets(sheet, method, margins):
-    """All the rules, over the fields only, with nothing rounded."""
+def meets(sheet, method, margins, liquor=None):
+    """All the rules, over the fields only, with nothing rounded but the yield. The liquor is the
+    tank's own, if no other reading of S-8 is handed in."""
+    liquor = liquor or liquor_in(sheet.tank)
     standing_meets = self_anchored_meets if sheet.anchors.N == 0 else anchored_meets
-    return courses_meet(sheet, method, margins) and standing_meets(sheet, margins)
+    return courses_meet(sheet, method, margins, liquor) and standing_meets(sheet, margins, liquor)
 
 
-def borne_out(sheet, method, word_on_it):
+def borne_out(sheet, method, word_on_it, liquor=None):
     """The claim about the sheet judged, by this method, and the word on it."""
     if word_on_it == "sound":
-        return meets(sheet, method, NO_MARGINS)
-    return not meets(sheet, method, given_margins(sheet))
+        return meets(sheet, method, NO_MARGINS, liquor)
+    return not meets(sheet, method, given_margins(sheet), liquor)
 
 
 # --- Sheets that try demand 3 -------------------------------------------------

@@ -1,4 +1,6 @@
-"""Document 01's example tank; its report is for the others to work out (see printing.py)."""
+"""Document 01's example tank, which holds water; its report is for the others to work out (see
+printing.py).
+"""
 
 from model.fields import Anchors, Course, Site, Tank
 

@@ -1,8 +1,9 @@
 """Judging a sheet, and the report.
 
 Written from document 01: "Order" (with requests S-1 and S-3 of document 02), "The rules" with the
-paragraph after them. The rules' figures are tank_rules.py's. S-3's method is handed in with the
-sheet, as any number that a u32 holds; bytes are judged by D100.
+paragraph after them, and from S-8, which has gravity in the needs and in wL. The rules' figures are
+tank_rules.py's. S-3's method is handed in with the sheet, as any number that a u32 holds; bytes are
+judged by D100.
 """
 
 from functools import cache
@@ -112,10 +113,10 @@ def bottom_edges(sheet):
 
 
 def course_reports(sheet, method):
-    D, H = sheet.tank.D, sheet.tank.H
+    D, H, gravity = sheet.tank.D, sheet.tank.H, sheet.tank.gravity
     for edge, course in bottom_edges(sheet):
         h = hoop_head(method, course_head(H, edge))
-        need = hoop_need(h, D, course.s, course.E)
+        need = hoop_need(h, D, course.s, course.E, gravity)
         required = required_plate(need, course.c, D)
         yield CourseReport(need, required, course.t, course_verdict(required, course.t))
 
@@ -123,7 +124,7 @@ def course_reports(sheet, method):
 def self_anchored(sheet, M):
     tank, site = sheet.tank, sheet.site
     wt = shell_weight_on_rim(tank.W, site.Av, tank.D)
-    wL = water_on_rim(tank.plate - tank.allowance, tank.Fy, tank.H, tank.D)
+    wL = water_on_rim(tank.plate - tank.allowance, tank.Fy, tank.H, tank.D, tank.gravity)
     T = resistance(tank.D, wt, wL)
     return SelfAnchored(self_wind_verdict(M, tank.W, tank.D), T, uplift(site.Ms, T),
                         self_earthquake_verdict(site.Ms, T))
@@ -202,6 +203,15 @@ def self_test():
     assert refusal is None and short_rules(report) == ["wind"]
     assert (report.standing.T, report.standing.lift) == (94_646, "none")
     assert judge(EXAMPLE._replace(anchors=None), D100) == ((38, 0), NO_REPORT)
+
+    # S-8: T is 1.44 x (28,863 + wL), with wL by its cap: 36,864, 41,914 and 47,923
+    for gravity, needs, T in ((1_000, [60, 40, 20], 94_646), (1_137, [70, 45, 25], 101_918),
+                              (1_300, [80, 55, 30], 110_571)):
+        heavier = EXAMPLE._replace(tank=EXAMPLE.tank._replace(gravity=gravity))
+        assert [course.need for course in judge(heavier, D100).report.courses] == needs
+        standing = judge(heavier._replace(anchors=SELF_ANCHORED), D100).report.standing
+        assert (standing.T, standing.lift) == (T, "none")
+        assert judge(heavier, D100).report.standing == judge(EXAMPLE, D100).report.standing
 
     # "the height of the course's bottom edge"
     twelve = EXAMPLE._replace(courses=(EXAMPLE.courses[0]._replace(width=6_400),) * 12, count=12)

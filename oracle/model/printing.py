@@ -10,9 +10,9 @@ from model.fields import WIND_FIELD
 from model.filling_in import EXAMPLE, SELF_ANCHORED
 from model.judging import Anchored
 from model.refusals import D100, FIELD_REFUSAL, MOST_COURSES
-from model.sheet_bytes import bytes_with, sheet_as_bytes, with_field_bytes
+from model.sheet_bytes import LAYOUTS, VERSION_2
 
-MARKER_READS = bytes_with(MOST_COURSES) + 1   # at most: enough to tell a longer sheet
+MARKER_READS = VERSION_2.bytes_with(MOST_COURSES) + 1   # at most: enough to tell a longer sheet
 
 # --- Lines --------------------------------------------------------------------
 
@@ -78,7 +78,8 @@ def marked_text(content):
     return answer_text(judging.mark(content).answer)
 
 
-# --- Self test: "The example tank", with S-5's second pull and S-7's first need
+# --- Self test: "The example tank", with S-5's second pull and S-7's first need; with N = 0; and
+# that one with S-8's greatest gravity
 
 EXAMPLE_TEXT = b"""\
 course 1 60 188 250 ok
@@ -97,12 +98,21 @@ wind 2123 73371
 self wind short resist 94646 none
 tank short
 """
+HEAVIER_TEXT = b"""\
+course 1 80 188 250 ok
+course 2 55 188 250 ok
+course 3 30 188 250 ok
+wind 2123 73371
+self wind short resist 110571 none
+tank short
+"""
 
 
 def check_over_long():
     """Bytes past those that the marker reads make no difference: it is 12 or 13 without them."""
     most = MARKER_READS - 1
-    for content, word in ((sheet_as_bytes(EXAMPLE).ljust(1_000, b"\0"), b"12"),
+    for content, word in (*((layout.sheet_as_bytes(EXAMPLE).ljust(1_000, b"\0"), b"12")
+                            for layout in LAYOUTS),
                           (bytes(1_000), b"13"), (b"\xff" * 65_536, b"13"),
                           ((most - 2).to_bytes(2, "big").ljust(most + 2, b"\1"), b"12")):
         assert len(content) > MARKER_READS
@@ -112,13 +122,17 @@ def check_over_long():
 
 def self_test():
     assert judged_text(EXAMPLE) == EXAMPLE_TEXT
-    content = sheet_as_bytes(EXAMPLE)
-    assert marked_text(content) == EXAMPLE_TEXT
     standing = EXAMPLE._replace(anchors=SELF_ANCHORED)
-    assert judged_text(standing) == marked_text(sheet_as_bytes(standing)) == SELF_TEXT
+    assert judged_text(standing) == SELF_TEXT
+    for layout in LAYOUTS:
+        content = layout.sheet_as_bytes(EXAMPLE)
+        assert marked_text(content) == EXAMPLE_TEXT
+        assert marked_text(layout.sheet_as_bytes(standing)) == SELF_TEXT
+        assert marked_text(layout.with_field_bytes(content, WIND_FIELD, 0)) == b"refused 16 7\n"
     assert judged_text(EXAMPLE._replace(anchors=None)) == b"refused 38\n"
     assert refusal_text((11, 0)) == marked_text(b"") == b"refused 11\n"
     assert refusal_text((16, 7)) == b"refused 16 7\n"
-    assert marked_text(with_field_bytes(content, WIND_FIELD, 0)) == b"refused 16 7\n"
-    assert MARKER_READS == 301      # by hand: twelve courses and a byte
+    heavier = standing._replace(tank=standing.tank._replace(gravity=1_300))
+    assert marked_text(VERSION_2.sheet_as_bytes(heavier)) == HEAVIER_TEXT
+    assert MARKER_READS == 305      # by hand: twelve courses and a byte
     check_over_long()

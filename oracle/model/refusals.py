@@ -1,6 +1,6 @@
 """Document 01's refusals: their numbers, and the orders in which they are looked for.
 
-Written from both lists of "Refusals" and from "Order", with requests S-1 to S-7 of document 02.
+Written from both lists of "Refusals" and from "Order", with requests S-1 to S-8 of document 02.
 A refusal is its number and its field (0 if it gives none); None stands for no refusal. The orders
 of tank, site, anchors, bytes and writing are where the sheet is: filling_in.py, sheet_bytes.py.
 """
@@ -20,13 +20,13 @@ D100, API_650 = METHODS = (1, 2)    # request S-3: "1 for D100, 2 for API 650"
 REFUSALS = {
     11: "fewer than two bytes, or fewer than 2 + L",
     12: "more than 2 + L bytes",
-    13: "L is not 58 + 20 n for n from 1 to 12",
-    14: "version not 1",
+    13: "L is neither 58 + 20 n nor 62 + 20 n for n from 1 to 12",
+    14: "version not 1 or 2, or not the one that goes with L",
     15: "the count byte is not the n that L gives",
     16: "a field outside its range",
     17: "allowance not less than plate",
     18: "anchors at odds with each other, the tank or the bolt chart",
-    19: "buffer shorter than 60 + 20 n",
+    19: "buffer shorter than 64 + 20 n",
     30: "a sheet that no run of steps leaves",
     31: "tank already stated",
     32: "no tank yet",

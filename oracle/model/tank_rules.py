@@ -1,15 +1,34 @@
-""""The rules" of document 01, with requests S-3, S-4, S-5 and S-7 of document 02.
+""""The rules" of document 01, with requests S-3, S-4, S-5, S-7 and S-8 of document
+02.
 
 Every figure is first an exact Fraction, then rounded as the document says. Letters (D, H, W, ...)
 are the document's; lengths are hundredths of an inch, plates mils, weights pounds, moments
-foot-pounds.
+foot-pounds, gravity thousandths of water's.
 """
 
 from fractions import Fraction
+from functools import cache
 from math import ceil, floor
 
 from model.arithmetic import Verdict, greatest_root, use_bits, verdict
+from model.fields import WATER
 from model.refusals import API_650, D100
+
+# --- Request S-8 ---------------------------------------------------------------
+
+
+@cache
+def times_water(gravity):
+    """What the need, the cap on wL and the water's pressure are multiplied by, in one fraction with
+    the rest of each."""
+    return Fraction(gravity, WATER)
+
+
+def yield_in_root(Fy, gravity):
+    """What Fy becomes in wL's root: "Fy x gravity / 1,000 rounded down". It is this whole number in
+    demand 3 too."""
+    return floor(Fraction(Fy * gravity, WATER))
+
 
 # --- "The rules": hoop; requests S-3 and S-7 ----------------------------------
 
@@ -28,15 +47,15 @@ def hoop_head(method, h):
     return max(h - FOOT, 0) if method == API_650 else h
 
 
-def exact_hoop_need(h, D, s, E):
+def exact_hoop_need(h, D, s, E, gravity=WATER):
     """Mils; h as the method has it."""
-    return Fraction(13 * h * D, 72 * s * E)
+    return Fraction(13 * h * D * gravity, 72 * s * E * WATER)
 
 
-def hoop_need(h, D, s, E):
+def hoop_need(h, D, s, E, gravity=WATER):
     """Without the allowance c. S-7: "rounded up to a multiple of 5 before the allowance is added,
-    for D100 and API 650"."""
-    return NEED_STEP * ceil(exact_hoop_need(h, D, s, E) / NEED_STEP)
+    for D100 and API 650"; S-8: multiplied "before they are rounded"."""
+    return NEED_STEP * ceil(exact_hoop_need(h, D, s, E, gravity) / NEED_STEP)
 
 
 def house_floor(D):
@@ -79,7 +98,7 @@ def wind_moment(p, D, Hs):
     return ceil(Fraction(p * D * Hs * Hs, 345_600_000_000))
 
 
-# --- "The rules": self-anchored -----------------------------------------------
+# --- "The rules": self-anchored; request S-8 -----------------------------------------------
 
 def self_wind_verdict(M, W, D):
     return verdict(3_600 * M, W * D)
@@ -90,18 +109,18 @@ def shell_weight_on_rim(W, Av, D):
     return floor(Fraction(2_712_000 * W * (10_000 - 4 * Av), 710_000 * D))
 
 
-def water_on_rim_root(tb, Fy, H):
+def water_on_rim_root(tb, Fy, H, gravity=WATER):
     """wL before its cap; tb is the bottom plate less its allowance."""
-    return greatest_root(12_000_000, 6_241 * tb * tb * Fy * H)
+    return greatest_root(12_000_000, 6_241 * tb * tb * yield_in_root(Fy, gravity) * H)
 
 
-def water_on_rim_cap(H, D):
-    return floor(Fraction(H * D, 11_250))
+def water_on_rim_cap(H, D, gravity=WATER):
+    return floor(Fraction(H * D * gravity, 11_250 * WATER))
 
 
-def water_on_rim(tb, Fy, H, D):
+def water_on_rim(tb, Fy, H, D, gravity=WATER):
     """wL, in hundredths of a pound per foot."""
-    return min(water_on_rim_root(tb, Fy, H), water_on_rim_cap(H, D))
+    return min(water_on_rim_root(tb, Fy, H, gravity), water_on_rim_cap(H, D, gravity))
 
 
 def resistance(D, wt, wL):
@@ -158,9 +177,47 @@ def strength_verdict(pull, A):
     return verdict(1_000 * pull, 19_950 * A)
 
 
+# --- Self test: request S-8, by hand ------------------------------------------
+
+
+def check_gravity():
+    """On the example tank the exact need of its first course, 58.7294, is 76.3482 with gravity
+    1,300 and 66.7753 with 1,137; the cap is 36,864 x 1.3 = 47,923.2 and x 1.137 = 41,914.368; the
+    root is that of 6,241 x 62,500 x 46,800 x 28,800 / 12,000,000, which is 43,811,820,000."""
+    course = 28_800, 14_400, 15_000, 85
+    assert [hoop_need(*course, gravity) for gravity in (1_000, 1_021, 1_022, 1_137, 1_300)] \
+        == [60, 60, 65, 70, 80]         # 58.7294 x 1.021 is 59.963, x 1.022 is 60.021
+    assert exact_hoop_need(28_800, 14_400, 15_000, 85, 1_300) == Fraction(1_297_920, 17_000)
+    assert [water_on_rim_cap(28_800, 14_400, gravity) for gravity in (1_000, 1_137, 1_300)] \
+        == [36_864, 41_914, 47_923]
+    assert [water_on_rim_root(250, 36_000, 28_800, gravity) for gravity in (1_000, 1_300)] \
+        == [183_579, 209_312] and 209_312**2 <= 43_811_820_000 < 209_313**2
+    # the yield is rounded by itself, down: 30,001 x 1.137 is 34,111.137, 30,007 x 1.137 is
+    # 34,117.959; without gravity nothing is rounded
+    for Fy, gravity, rounded in ((36_000, 1_300, 46_800), (30_001, 1_137, 34_111),
+                                 (30_007, 1_137, 34_117), (50_000, 1_300, 65_000),
+                                 (49_999, 1_001, 50_048), (41_321, 1_000, 41_321)):
+        assert yield_in_root(Fy, gravity) == rounded
+    # by the unrounded 34,117.959 this root would be 178,716
+    assert water_on_rim_root(250, 30_007, 28_800, 1_137) == 178_713
+    # 13 x 720 x 25,000 / (72 x 13,000 x 50) is 5 just
+    assert [hoop_need(720, 25_000, 13_000, 50, gravity) for gravity in (1_000, 1_001)] == [5, 10]
+    # the largest: 6,656 x 1.3 is 8,652.8, by API 650 6,552 x 1.3 is 8,517.6; 1,638,400 x 1.3
+    assert hoop_need(76_800, 240_000, 10_000, 50, 1_300) == 8_655
+    assert hoop_need(hoop_head(API_650, 76_800), 240_000, 10_000, 50, 1_300) == 8_520
+    assert water_on_rim_cap(76_800, 240_000, 1_300) == 2_129_920
+    for H, D, Fy in ((28_800, 14_400, 36_000), (31_234, 18_001, 41_321), (1_201, 12_345, 30_001)):
+        point = H, D, 12_345, 61
+        assert exact_hoop_need(*point, 1_000) == exact_hoop_need(*point)
+        assert hoop_need(*point, 1_000) == hoop_need(*point)
+        assert water_on_rim(250, Fy, H, D, 1_000) == water_on_rim(250, Fy, H, D) \
+            == min(greatest_root(12_000_000, 6_241 * 62_500 * Fy * H), H * D // 11_250)
+
+
 # --- Self test: "The example tank", "Cases on that tank" ----------------------
 
 def self_test():
+    check_gravity()
     D, H, W, tb, Fy = 14_400, 28_800, 11_000, 250 - 0, 36_000
     V, Kz, I, Av, Ms = 105, 109, 115, 27, 30_000
     N, B, d = 6, 14_800, 8

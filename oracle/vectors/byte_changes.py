@@ -3,12 +3,12 @@
 A damage changes a bytearray in place; the others give new bytes.
 """
 
-from model.sheet_bytes import LENGTH_BYTES, field_bytes, figures_as_bytes
+from model.sheet_bytes import LENGTH_BYTES, VERSION_1, figures_as_bytes
 from vectors.records import read, to_judge
 
 
-def put_field(content, field, figure, place=0):
-    content[field_bytes(field, place)] = figures_as_bytes((figure,))
+def put_field(content, field, figure, place=0, layout=VERSION_1):
+    content[layout.field_bytes(field, place)] = figures_as_bytes((figure,))
 
 
 def exchange(content, one, other):
@@ -40,8 +40,8 @@ def longer_by_one_throughout(content):
     content.append(0)
 
 
-def field_damage(field, figure, place=0):
-    return lambda content: put_field(content, field, figure, place)
+def field_damage(field, figure, place=0, layout=VERSION_1):
+    return lambda content: put_field(content, field, figure, place, layout)
 
 
 def damaged_by(content, change):

@@ -6,7 +6,9 @@ writes them anew. A file starts from an empty sheet, and each question finds the
 above it leave:
 
 clear                               begins anew
-tank, site, anchors, course ..      the steps, with their figures; `anchors none` is N = 0
+request S-8                         begins anew: what follows came with that request (see below)
+tank, site, anchors, course ..      the steps, with their figures; `anchors none` is N = 0, and a
+                                    tank's gravity may be left out: it is 1,000 then
 read HEX                            the sheet of these bytes is the held one, or the empty one
 write [SIZE]                        into a buffer of SIZE bytes, or of as many as the sheet needs
 judge, uses, compression [METHOD]   1 (D100) or 2 (API 650); 1 where it is left out
@@ -17,7 +19,8 @@ put tank, site or anchors ..        the part, tried by nobody, or `none`, not st
 put slot K width t c s E            a course's slot, numbered from 1
 put count N                         how many slots hold a course
 
-clear and put have no reply.
+clear, request and put have no reply. What stands below `request` becomes vectors that are stored
+after all older ones, so that a file can grow and no older vector moves.
 """
 
 import re
@@ -31,8 +34,7 @@ from model.fields import ENTRIES, TABLE, Course
 from model.filling_in import EMPTY, SELF_ANCHORED, Sheet
 from model.refusals import D100, MOST_COURSES, standard_site_refusal
 from model.sheet_bytes import (
-    COURSE_BYTES, FIELD_BYTES, FIRST_FIELD_AT, HEAD_BYTES, LENGTH_BYTES, bytes_with, sheet_as_bytes,
-    write_refusal,
+    COUNT_BYTES, COURSE_BYTES, FIELD_BYTES, FIRST_FIELD_AT, LENGTH_BYTES, VERSION_2, write_refusal,
 )
 from model.tank_rules import standard_site_pressure
 from vectors import records
@@ -41,11 +43,13 @@ from vectors.leaf_lines import leaf_line
 from vectors.marker_cases import MOST_BYTES
 from vectors.record_answers import lent_buffer, outcome_on
 from vectors.scripts import with_slot
+from vectors.version_1 import sheet_as_bytes
 
 FOLDER = Path(__file__).resolve().parent.parent.parent / "cases"
 NAMES = ("steps", "read", "write", "judge", "marker", "pressure", "compression", "ground")
 FILL = 200              # the first byte of a lent buffer; the others count up from it
 PRESSURE_LEAF, GROUND_LEAF = 27, 40
+REQUESTS = ("S-8",)     # that have a part of their own in a file
 
 
 class Mistake(Exception):
@@ -107,7 +111,11 @@ def figures_in(question, words, *names):
 
 
 def entry_in(question, entry, words):
-    return entry._make(figures_in(question, words, *entry._fields))
+    """What the entry has without being told may be left out."""
+    names = entry._fields
+    if len(words) == len(names) - len(entry._field_defaults):
+        names = names[:len(words)]
+    return entry(*figures_in(question, words, *names))
 
 
 def bytes_in(question, most):
@@ -137,7 +145,8 @@ def word_reply(outcome):
 
 
 def bytes_of_entries(content):
-    """The bytes of a complete sheet by fields: L and version, tank, site, anchors, n, courses."""
+    """The written bytes of a complete sheet by fields: L and version, tank, site, anchors, n,
+    courses."""
     yield [content[:LENGTH_BYTES], content[LENGTH_BYTES:FIRST_FIELD_AT]]
     start = FIRST_FIELD_AT
     sizes = [len(entry._fields) for entry in ENTRIES[:-1]]
@@ -145,8 +154,9 @@ def bytes_of_entries(content):
         yield [content[at:at + FIELD_BYTES]
                for at in range(start, start + FIELD_BYTES * size, FIELD_BYTES)]
         start += FIELD_BYTES * size
-    yield [content[start:HEAD_BYTES]]
-    for at in range(HEAD_BYTES, len(content), COURSE_BYTES):
+    courses_at = start + COUNT_BYTES
+    yield [content[start:courses_at]]
+    for at in range(courses_at, len(content), COURSE_BYTES):
         yield [content[field:field + FIELD_BYTES]
                for field in range(at, at + COURSE_BYTES, FIELD_BYTES)]
 
@@ -207,6 +217,7 @@ class Tried(NamedTuple):
     record: records.Record | None = None        # for test_steps
     content: bytes | None = None    # for test_sheets
     leaf: str | None = None         # for test_leaves: a line
+    request: str = ""               # with which it came
 
 
 def by_record(question, sheet, record, reply=word_reply, content=None):
@@ -218,6 +229,14 @@ def clear(question, sheet):
     if len(question.words) > 1:
         raise question.mistake("clear stands alone")
     return by_record(question, sheet, records.new(), lambda _outcome: ())
+
+
+def request(question, _sheet):
+    """As if it were cleared; the records of the part begin with a new sheet all the same."""
+    _word, *operands = question.words
+    if len(operands) != 1 or operands[0] not in REQUESTS:
+        raise question.mistake(f"a request is one of {', '.join(REQUESTS)}")
+    return Tried(question, EMPTY, request=operands[0])
 
 
 def step(question, sheet):
@@ -235,12 +254,13 @@ def read(question, sheet):
 
 
 def write(question, sheet):
-    size = one_at_most(question, bytes_with(sheet.count), records.MOST_BUFFER)
+    size = one_at_most(question, VERSION_2.bytes_with(sheet.count), records.MOST_BUFFER)
     return by_record(question, sheet, records.write(size, FILL), write_reply)
 
 
 def judge(question, sheet):
-    """What can be written can be handed in as bytes too, which D100 is for."""
+    """What can be written can be handed in as bytes too, which D100 is for: of version 1, if its
+    gravity is that one's."""
     method = one_at_most(question, D100)
     complete = method == D100 and write_refusal(sheet, records.MOST_BUFFER) is None
     content = sheet_as_bytes(sheet) if complete else None
@@ -301,7 +321,8 @@ def put(question, sheet):
 
 
 WORDS: dict[str, Callable] = {
-    "clear": clear, **dict.fromkeys(TABLE, step), "read": read, "write": write, "judge": judge,
+    "clear": clear, "request": request, **dict.fromkeys(TABLE, step), "read": read, "write": write,
+    "judge": judge,
     "uses": uses, "compression": compression, "mark": mark, "pressure": pressure,
     "ground": ground_motion, "put": put,
 }
@@ -311,17 +332,17 @@ WORDS: dict[str, Callable] = {
 
 def tried_in(name, text):
     """What all questions come to, in turn; lines that say nothing too."""
-    sheet = EMPTY
+    sheet, since = EMPTY, ""
     for question in questions_in(name, text):
         if not question.words:
-            yield Tried(question, sheet)
+            yield Tried(question, sheet, request=since)
             continue
         word, *_operands = question.words
         if word not in WORDS:
             raise question.mistake(f"{word!r} is none of {', '.join(WORDS)}")
         tried = WORDS[word](question, sheet)
-        sheet = tried.sheet
-        yield tried
+        sheet, since = tried.sheet, tried.request or since
+        yield tried._replace(request=since)
 
 
 def written_out(tried):

@@ -1,20 +1,21 @@
 """The cases that people can read, as vectors: what the programs are run on is just what the files
-of cases/ show (see case_files.py).
+of cases/ show (see case_files.py). What came with a request is by itself, to be stored later.
 """
 
 from functools import cache
 from itertools import pairwise
+from typing import NamedTuple
 
 from model.filling_in import EXAMPLE
 from vectors import records
-from vectors.case_files import NAMES, Mistake, tried_in, tried_in_files, written_out
+from vectors.case_files import NAMES, REQUESTS, Mistake, tried_in, tried_in_files, written_out
 from vectors.judge_checks import (
     check_beside_d100, check_beside_writing, check_demand_3, check_sides,
 )
 from vectors.record_answers import outcomes
 from vectors.script_checks import check_outcomes
 
-LEAST_CASES, MOST_LINES = 12, 225       # of a file
+LEAST_CASES, MOST_LINES = 12, 350       # of a file
 
 # --- Vectors ------------------------------------------------------------------
 
@@ -25,36 +26,44 @@ def without_unseen(found):
             if after is None or {one.opcode, after.opcode} != {records.FORGE}]
 
 
+class Cases(NamedTuple):
+    """Those that came with a request, or those before any part that has one."""
+    request: str
+
+    def group_of(self, part):
+        """Name of the file to what its questions have for this part of Tried, if they have
+        any."""
+        found = {name: [getattr(one, part) for one in tried
+                        if one.request == self.request and getattr(one, part) is not None]
+                 for name, tried in tried_in_files().items()}
+        return {name: of_file for name, of_file in found.items() if of_file}
+
+    def group_records(self):
+        """For test_steps; the first record makes a new sheet."""
+        return {name: [records.new(), *without_unseen(of_file)]
+                for name, of_file in self.group_of("record").items()}
+
+    def all_records(self):
+        return records.in_turn(self.group_records())
+
+    def all_outcomes(self):
+        return outcomes_of(self)
+
+    def group_sheets(self):
+        """Bytes, for test_sheets."""
+        return self.group_of("content")
+
+    def group_leaf_lines(self):
+        """For test_leaves."""
+        return self.group_of("leaf")
+
+
 @cache
-def group_records():
-    """Name of the file to its records for test_steps, the first of which makes a new sheet."""
-    found = {name: [one.record for one in tried if one.record is not None]
-             for name, tried in tried_in_files().items()}
-    return {name: [records.new(), *without_unseen(of_file)]
-            for name, of_file in found.items() if of_file}
+def outcomes_of(cases):
+    return list(outcomes(cases.all_records()))
 
 
-def all_records():
-    return records.in_turn(group_records())
-
-
-@cache
-def all_outcomes():
-    return list(outcomes(all_records()))
-
-
-def group_sheets():
-    """Name of the file to its bytes for test_sheets."""
-    found = {name: [one.content for one in tried if one.content is not None]
-             for name, tried in tried_in_files().items()}
-    return {name: of_file for name, of_file in found.items() if of_file}
-
-
-def group_leaf_lines():
-    """Name of the file to its lines for test_leaves."""
-    found = {name: [one.leaf for one in tried if one.leaf is not None]
-             for name, tried in tried_in_files().items()}
-    return {name: of_file for name, of_file in found.items() if of_file}
+BEFORE, S_8 = map(Cases, ("", *REQUESTS))
 
 
 # --- Self test ----------------------------------------------------------------
@@ -71,7 +80,7 @@ course 9600 250 0 15000 85
 compression 3
 anchors 6 14800 8
 uses 2
-write 121
+write 125
 put slot 12 0 0 0 0 1
 put count 3
 write
@@ -81,6 +90,9 @@ mark 00 76 \\
      01
 ground C 240 93
 pressure 105
+request S-8
+tank 14400 28800 11000 250 0 36000 1301
+tank 14400 28800 11000 250 0 36000 1,300
 """
 REPLIES = """\
 # The example tank, with a comma
@@ -105,9 +117,9 @@ uses 2
     course 3 188 of 250 0.752
     spacing 5254000 of 8136000 0.645771878072763
     strength 2133000 of 12089700 0.1764311769522817
-write 121
-    bytes 00 76  01
-    bytes 00 00 38 40  00 00 70 80  00 00 2a f8  00 00 00 fa  00 00 00 00  00 00 8c a0
+write 125
+    bytes 00 7a  02
+    bytes 00 00 38 40  00 00 70 80  00 00 2a f8  00 00 00 fa  00 00 00 00  00 00 8c a0  00 00 03 e8
     bytes 00 00 00 69  00 00 00 6d  00 00 00 73  00 00 00 1b  00 00 75 30
     bytes 00 00 00 06  00 00 39 d0  00 00 00 08
     bytes 03
@@ -129,11 +141,18 @@ ground C 240 93
     ground 720000 158100 27
 pressure 105
     pressure 2123
+request S-8
+tank 14400 28800 11000 250 0 36000 1301
+    refused 16 20
+tank 14400 28800 11000 250 0 36000 1,300
+    ok
 """
 MISTAKES = (        # lines, and how the mistake in them is said
-    ("\ntonk 1", "line 2: 'tonk' is none of clear, tank, site, anchors, course, read, write, "
-                 "judge, uses, compression, mark, pressure, ground, put"),
-    ("tank 1 2 3 4 5", "line 1: these are 5 figures, not D H W plate allowance Fy"),
+    ("\ntonk 1", "line 2: 'tonk' is none of clear, request, tank, site, anchors, course, read, "
+                 "write, judge, uses, compression, mark, pressure, ground, put"),
+    ("tank 1 2 3 4 5", "line 1: these are 5 figures, not D H W plate allowance Fy gravity"),
+    ("tank 1 2 3 4 5 6 7 8", "line 1: these are 8 figures, not D H W plate allowance Fy gravity"),
+    ("request S-9", "line 1: a request is one of S-8"),
     ("anchors 6 14,80 8", "line 1: '14,80' is not a whole number"),
     ("anchors 6 4,294,967,296 8", "line 1: 4,294,967,296 is above 4294967295"),
     ("clear\nread 0x00", "line 2: these are no bytes, of two hexadecimal digits each"),
@@ -164,6 +183,7 @@ def check_lines():
     assert written_out(tried) == REPLIES, written_out(tried)
     assert written_out(tried_in("steps", REPLIES)) == REPLIES
     assert any(one.sheet == EXAMPLE for one in tried)
+    assert [one.request for one in tried][-3:] == ["S-8"] * 3 and tried[-4].request == ""
     for text, said in MISTAKES:
         assert mistake_in(text) == said, (said, mistake_in(text))
 
@@ -175,18 +195,21 @@ def check_files():
         assert sum(bool(one.reply) for one in tried) >= LEAST_CASES, name
         assert written_out(tried).count("\n") <= MOST_LINES, name
         assert max(map(len, written_out(tried).split("\n"))) <= 100, name
-    assert {*group_leaf_lines()} == {"pressure", "ground"}      # as `groups` lists them
-    assert not {*group_leaf_lines()} & {*group_records()}
-    assert {"judge", "marker"} <= {*group_sheets()}
-    assert {"steps", "read", "write", "judge", "compression"} <= {*group_records()}
+    assert {*BEFORE.group_leaf_lines()} == {"pressure", "ground"}       # as `groups` lists them
+    assert not {*BEFORE.group_leaf_lines()} & {*BEFORE.group_records()}
+    assert not S_8.group_leaf_lines()
+    for cases in (BEFORE, S_8):
+        assert {"judge", "marker"} <= {*cases.group_sheets()}
+        assert {"steps", "read", "write", "judge", "compression"} <= {*cases.group_records()}
 
 
 def self_test():
     check_lines()
     check_files()
-    found, results = all_records(), all_outcomes()
-    check_outcomes(found, results)
-    check_demand_3(results)
-    check_beside_writing(found, results)
-    check_beside_d100(results)
-    check_sides(results)
+    for cases in (BEFORE, S_8):
+        found, results = cases.all_records(), cases.all_outcomes()
+        check_outcomes(found, results)
+        check_demand_3(results)
+        check_beside_writing(found, results)
+        check_beside_d100(results)
+        check_sides(results)

@@ -19,7 +19,7 @@ from vectors.record_answers import outcomes
 from vectors.records import (
     ask, ask_held, course, forge, judge, judge_held, mark, new, read, site, tank,
 )
-from vectors.scripts import U32_MOST, unstated, with_outside, with_slot, write_for, wrote
+from vectors.scripts import U32_MOST, unstated, with_outside, with_slot, write_for, write_word
 from vectors.start_sheets import ALMOST_BLANK, EXAMPLE_BYTES
 from vectors.steps_random import drawn_site
 
@@ -77,8 +77,8 @@ def held_and_restated():
                                    (forge(EXAMPLE), "held", (API_650, D100, 7))):
         yield asked_after_each(
             methods, (opening, word, EXAMPLE_SAID), (shaken(74_297), "ok", by_six),
-            (NO_ANCHORS, "ok", by_none), (write_for(3, 1), wrote(3), by_none),
-            (shaken(74_298), "ok", "refused 43"), (write_for(3, 2), wrote(3), "refused 43"),
+            (NO_ANCHORS, "ok", by_none), (write_for(3, 1), write_word(3), by_none),
+            (shaken(74_298), "ok", "refused 43"), (write_for(3, 2), write_word(3), "refused 43"),
             (tank(example.TANK), "refused 31", "refused 43"),
             (site(with_outside(example.SITE, 11)), "refused 16 11", "refused 43"),
             (course(Course(width=9_600, t=100, c=99, s=10_000, E=50)), "ok", "refused 43"),

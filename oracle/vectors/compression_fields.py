@@ -8,7 +8,7 @@ from random import Random
 
 from model import compression, judging
 from model.compression import CHART, LAST_ENTRY, MOST_ELASTIC
-from model.fields import ANCHOR_FIELDS, FIELD_RANGES, field_in_range
+from model.fields import ANCHOR_FIELDS, field_in_range
 from model.refusals import D100, METHODS
 from vectors.compression_cases import (
     EXAMPLE, EXAMPLE_SAID, SELF, SELF_SAID, WAYS, anchored_to, answered, figures_on, most_moment,
@@ -25,6 +25,7 @@ from vectors.leaf_points import neighbours
 from vectors.records import ask
 from vectors.scripts import with_slot
 from vectors.steps_forged import all_at
+from vectors.version_1 import FIELD_RANGES
 
 # --- Groups: the example tank -------------------------------------------------
 

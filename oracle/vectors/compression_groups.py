@@ -100,11 +100,11 @@ def all_asked():
 
 
 def check_forms():
-    """The records and lines, spelled out: the length of a payload, 4 x 79 bytes, is typed by hand,
+    """The records and lines, spelled out: the length of a payload, 4 x 80 bytes, is typed by hand,
     for the layout is what is checked here."""
     assert record_as_bytes(ask_held()) == b"\x0c\0\4\0\0\0\1"
     assert ask(EXAMPLE, 2) == (COMPRESSION, judge(EXAMPLE, 2).payload)
-    assert record_as_bytes(ask(EXAMPLE))[:3] == b"\x0b\x01\x3c"
+    assert record_as_bytes(ask(EXAMPLE))[:3] == b"\x0b\x01\x40"
     assert (COMPRESSION, COMPRESSION_HELD) == ASKING == (11, 12)
     assert outcome(ask(EXAMPLE)).line() == "stress 187 allowed 11113 holds yes"
     assert outcome(ask(SELF, 2)).line() == "stress 187 allowed 13632 holds yes"

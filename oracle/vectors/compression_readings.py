@@ -85,11 +85,14 @@ def water_of(sheet):
     return sheet.tank.H
 
 
-STRESS_PARTS = {"reduced_by": "0.4", "circle": Fraction(355, 113), "factor": "1.273",
+STRESS_PARTS = {"reduced_by": Fraction("0.4"), "circle": Fraction(355, 113),
+                "factor": Fraction("1.273"),
                 "weight": exactly, "rounding": ceil}
-ALLOWED_PARTS = {"of_diameter": Fraction(1, 2), "of_ratio": class_1, "water": "0.433",
+ALLOWED_PARTS = {"of_diameter": Fraction(1, 2), "of_ratio": class_1,
+                 "water": Fraction("0.433"),
                  "modulus": 29_000_000, "place": floor, "chart": compression.entry,
-                 "helped": without_anchors, "safety": 2, "seismic": "1.333", "level": water_of,
+                 "helped": without_anchors, "safety": 2, "seismic": Fraction("1.333"),
+                 "level": water_of,
                  "parts": exactly, "rounding": floor}
 
 

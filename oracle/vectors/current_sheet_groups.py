@@ -10,7 +10,7 @@ from random import Random
 from model import example, sheet_bytes
 from model.filling_in import EMPTY, NO_COURSE, run_to, sheet_of
 from model.refusals import API_650, D100, METHODS
-from model.sheet_bytes import bytes_as_figures, sheet_as_bytes, write_refusal
+from model.sheet_bytes import bytes_as_figures, write_refusal
 from vectors import judge_cases
 from vectors.current_sheet_scripts import (
     BETWEEN, CALM, EXAMPLE, LEFT_OUT, LETTERS, NEXT_COURSE, NO_ANCHORS, SAID, SELF, SELF_BYTES,
@@ -33,11 +33,12 @@ from vectors.records import (
 from vectors.script_checks import check_outcomes
 from vectors.scripts import (
     U32_MOST, records_by_name, step_record, unstated, with_anchors, with_outside, with_plate,
-    with_slot, write_for, wrote,
+    with_slot, write_for, write_word,
 )
 from vectors.start_sheets import ALMOST_BLANK, EXAMPLE_BYTES, FULL_BYTES, FULL_COURSES, LOW_COURSE
 from vectors.steps_orders import BYTES_ORDER, damaged
 from vectors.steps_random import drawn_site, random_run
+from vectors.version_1 import sheet_as_bytes
 
 LEAST_REPORTS = 250     # of JUDGE_HELD
 
@@ -146,16 +147,18 @@ def read_then_restated():
         opening = (read(content), "ok", as_it_is)
         restated = changed(sheet_bytes.read(content).sheet, V=96)
         yield judged_after_each(
-            opening, (CALM, "ok", calm), (write_for(3, 1), wrote(3), calm),
+            opening, (CALM, "ok", calm), (write_for(3, 1), write_word(3), calm),
             (read(sheet_as_bytes(restated)), "ok", calm))
         yield judged_after_each(
-            opening, (write_for(3, 2), wrote(3), as_it_is), (tank_again, "refused 31", as_it_is),
+            opening, (write_for(3, 2), write_word(3), as_it_is),
+            (tank_again, "refused 31", as_it_is),
             (no_site, "refused 16 11", as_it_is), *refused_anchors(as_it_is),
             (write_for(3, 3, -1), "refused 19", as_it_is), (CALM, "ok", calm),
-            (NEXT_COURSE, "ok", higher), (write_for(4, 4), wrote(4), higher))
+            (NEXT_COURSE, "ok", higher), (write_for(4, 4), write_word(4), higher))
         yield judged_after_each(
-            opening, (other, "ok", by_other), (write_for(3, 5, 30), wrote(3), by_other),
-            (stated, "ok", as_it_is), (write_for(3, 6), wrote(3), as_it_is), (CALM, "ok", calm),
+            opening, (other, "ok", by_other), (write_for(3, 5, 30), write_word(3, 30), by_other),
+            (stated, "ok", as_it_is), (write_for(3, 6), write_word(3), as_it_is),
+            (CALM, "ok", calm),
             (other, "ok", calm_by_other))
 
 
@@ -306,12 +309,12 @@ def restated_by_methods():
     openings = ((read(GROWER_BYTES), "ok"), (forge(GROWER), "held"))
     for (opening, word), said in zip(openings, in_many_orders()):
         yield judged_by_methods(
-            (opening, word, said("6")), (write_for(3, 1), wrote(3), said("6")),
+            (opening, word, said("6")), (write_for(3, 1), write_word(3), said("6")),
             (NO_ANCHORS, "ok", said("0")), (write_for(3, 2, -1), "refused 19", said("0")),
             (anchors((6, 14_399, 8)), "refused 18", said("0")),
             (tank(GROWER.tank), "refused 31", said("0")), (SIX_ANCHORS, "ok", said("6")),
             (site(with_outside(example.SITE, 7)), "refused 16 7", said("6")),
-            (write_for(3, 3), wrote(3), said("6")), (read(b""), "refused 11", said("32")))
+            (write_for(3, 3), write_word(3), said("6")), (read(b""), "refused 11", said("32")))
 
 
 def forged_by_methods():

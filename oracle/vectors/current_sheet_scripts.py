@@ -6,10 +6,10 @@ or by each of several methods; from there the next turn goes on.
 
 from model import example, filling_in
 from model.refusals import D100
-from model.sheet_bytes import sheet_as_bytes
 from vectors.judge_cases import self_anchored
 from vectors.record_answers import NO_REPORT_TEXT, outcomes
 from vectors.records import anchors, course, judge_held, new, site, tank
+from vectors.version_1 import sheet_as_bytes
 
 # --- Making scripts -----------------------------------------------------------
 

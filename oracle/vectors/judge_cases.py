@@ -13,10 +13,10 @@ from model import filling_in, judging
 from model.fields import ANCHOR_FIELDS, NUMBER_OF, SITE_FIELDS, TANK_FIELDS, with_field
 from model.filling_in import SELF_ANCHORED, sheet_of
 from model.refusals import D100
-from model.sheet_bytes import sheet_as_bytes
 from vectors.record_answers import NO_REPORT_TEXT, outcome_on
 from vectors.records import judge, mark
 from vectors.scripts import with_slot
+from vectors.version_1 import sheet_as_bytes
 
 # --- Making cases -------------------------------------------------------------
 

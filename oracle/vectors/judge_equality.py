@@ -26,7 +26,7 @@ def heads_at_equality(heads, method):
             if allowance >= 0:
                 sheet = course_changed(heads, number, c=allowance)
                 yield sound_if(allowance <= c, sheet, f"course {number}", method=method)
-        for letter, least in (("s", 15_000), ("E", 85)):
+        for letter, least in (("s", heads.courses[0].s), ("E", 85)):
             for figure in beside(least):
                 sheet = course_changed(heads, number, **{letter: figure})
                 yield sound_if(figure >= least, sheet, f"course {number}", method=method)

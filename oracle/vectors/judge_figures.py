@@ -4,7 +4,7 @@ from itertools import product
 
 from model.arithmetic import rounded_down
 from model.demand_3 import HALF_IS_LITTLE, MARGIN_COUNTS
-from model.fields import ANCHOR_FIELDS, FIELD_RANGES, NUMBER_OF
+from model.fields import ANCHOR_FIELDS, NUMBER_OF
 from model.filling_in import shell_height
 from model.refusals import D100
 from model.tank_rules import BOLT_CHART, water_on_rim_cap, water_on_rim_root
@@ -17,6 +17,7 @@ from vectors.leaf_points import beside
 from vectors.random_sheets import most_borne
 from vectors.start_sheets import FULL_COURSES, courses_to, widths_to
 from vectors.steps_forged import all_at
+from vectors.version_1 import FIELD_RANGES
 
 # --- Groups: courses and water ------------------------------------------------
 

@@ -7,7 +7,6 @@ from itertools import product
 
 from model import demand_3
 from model.arithmetic import use_bits
-from model.fields import FIELD_RANGES
 from model.filling_in import EMPTY
 from model.judging import Anchored, SelfAnchored
 from model.refusals import API_650, D100, MOST_COURSES
@@ -54,6 +53,7 @@ from vectors.leaf_texts import hexadecimal
 from vectors.need_points import ASTRAY, NEAREST
 from vectors.records import JUDGE, MARK, forge, in_turn, judge, to_judge
 from vectors.scripts import U32_MOST
+from vectors.version_1 import FIELD_RANGES
 
 LEAST_RANDOM_SHEETS = 2_000
 

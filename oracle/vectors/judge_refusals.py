@@ -2,13 +2,13 @@
 
 from itertools import product
 
-from model import filling_in, sheet_bytes
+from model import filling_in
 from model.demand_3 import FULL_HEADS
-from model.fields import COURSE_FIELDS, FIELD_RANGES, Anchors, with_field
+from model.fields import COURSE_FIELDS, Anchors, with_field
 from model.filling_in import EMPTY, NO_COURSE, SELF_ANCHORED, sheet_of, shell_height, take_step
 from model.printing import refusal_word
 from model.refusals import FIELD_REFUSAL, METHODS, MOST_COURSES
-from model.sheet_bytes import COUNT_AT, HEAD_BYTES, VERSION_AT, sheet_as_bytes
+from model.sheet_bytes import VERSION_AT
 from model.tank_rules import hoop_need, resistance, shell_weight_on_rim
 from vectors.byte_changes import damaged_by, longer_by_one_throughout, with_byte
 from vectors.judge_cases import (
@@ -28,6 +28,9 @@ from vectors.steps_forged import (
     forged_wrong_and_unstated,
 )
 from vectors.steps_orders import BYTES_ORDER, bytes_order_all_at_once, damaged, first_of, lacking
+from vectors.version_1 import (
+    COUNT_AT, FIELD_RANGES, HEAD_BYTES, as_bytes, sheet_as_bytes,
+)
 
 # --- Groups: document 01's example and cases ----------------------------------
 
@@ -47,8 +50,7 @@ def example_cases():
     yield short(changed(standing, D=60_000), "wind", shows="| 165 188 250 holds")
     yield short(changed(standing, D=60_001), "wind", shows="| 165 250 250 holds")
     yield refused("refused 37", *handed_in(changed(EXAMPLE, H=28_801)))
-    thirteen = sheet_bytes.as_bytes(EXAMPLE.tank, EXAMPLE.site, EXAMPLE.anchors,
-                                    [EXAMPLE.courses[0]] * 13)
+    thirteen = as_bytes(EXAMPLE.tank, EXAMPLE.site, EXAMPLE.anchors, [EXAMPLE.courses[0]] * 13)
     yield refused("refused 13", mark(thirteen))
     yield refused("refused 30", judge(with_widths(EXAMPLE, [5_900] * 12)._replace(count=13)))
 

@@ -5,10 +5,10 @@ ranges, bolts, long divisions.
 from itertools import product
 
 from model.arithmetic import greatest_root
-from model.fields import FIELD_RANGES
 from vectors.leaf_points import (
     EDGE_DRAWS, HALF, SIDE, SIGN, SIZE, U32, U64, WORD, beside, even_draw, from_one, small_draw,
 )
+from vectors.version_1 import FIELD_RANGES
 
 # --- Edges of the arithmetic leaves -------------------------------------------
 

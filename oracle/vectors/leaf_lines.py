@@ -1,10 +1,12 @@
-"""The lines that test_leaves reads, `LEAF A B C D`, and writes.
+"""The lines that test_leaves reads, `LEAF A B C D`, and writes. Those of request S-8, some of which
+have five arguments, are leaf_liquor.py's.
 
 A leaf's points are the documents' figures, the two ends of each range, combined, its edges, and
 random points with a fixed seed; the leaves of S-6 (7, 8 and 53 to 55) take no such ends.
 """
 
 from fractions import Fraction
+from functools import cache
 from itertools import product
 from math import floor, prod
 from random import Random
@@ -13,7 +15,6 @@ from model import compression
 from model.compression import (
     ARGUMENT_PARTS, BRANCHES, CHART, COEFFICIENT_PARTS, F_L, MOST_ELASTIC, MOST_INELASTIC,
 )
-from model.fields import FIELD_RANGES
 from model.refusals import METHODS, REFUSALS
 from model.tank_rules import exact_hoop_need, house_floor
 from vectors.leaf_edges_compression import (
@@ -25,6 +26,7 @@ from vectors.leaf_points import COEFFICIENT, HALF, NO_METHODS, PARTS, even_draw,
 from vectors.leaf_table import LEAVES
 from vectors.leaf_texts import decimal, halves
 from vectors.need_points import NEEDS_ASTRAY, PLATES_ASTRAY, RIGHT, UP
+from vectors.version_1 import FIELD_RANGES
 
 ARGUMENTS = 4          # on a line; the unused ones are 0
 USUAL_POINTS = 60      # more of them, where only a part of the domain is of interest
@@ -50,6 +52,7 @@ def add_random_points(points, leaf, rng, domain, count):
             points.setdefault(point)
 
 
+@cache
 def leaf_points(number):
     """The leaf's points without repeats, in a fixed order."""
     leaf = LEAVES[number]

@@ -11,7 +11,7 @@ from typing import Callable, NamedTuple
 
 from model import compression
 from model.arithmetic import greatest_root, rounded_down, rounded_up, use_bits
-from model.fields import FIELD_RANGES, field_in_range
+from model.fields import field_in_range
 from model.refusals import API_650, D100, REFUSALS, refusal_at
 from model.tank_rules import (
     bolt_area, course_head, course_verdict, hoop_need, house_floor, larger_pull, net_pull,
@@ -41,6 +41,7 @@ from vectors.leaf_texts import (
     decimal, ground_text, halves, hexadecimal, hoop_head_text, in_parts, refusal_text, signed,
     standard_site_text, verdict_text, yes_or_no,
 )
+from vectors.version_1 import FIELD_RANGES
 
 RANDOM_POINTS = 220    # new ones for each leaf that does not say another number
 

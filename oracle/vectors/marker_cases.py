@@ -10,10 +10,10 @@ from functools import cache
 from typing import NamedTuple
 
 from model import judging, printing, sheet_bytes
-from model.sheet_bytes import sheet_as_bytes
 from vectors import marker_tries
 from vectors.judge_cases import EXAMPLE, SELF, changed, has_part, with_widths
 from vectors.start_sheets import widths_to
+from vectors.version_1 import sheet_as_bytes
 
 MOST_BYTES = 2**16 - 1          # of a sheet: its count has two bytes
 

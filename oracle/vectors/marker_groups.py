@@ -1,16 +1,21 @@
 """All groups of printing, what they come to, and the checks over all of them."""
 
 import re
+from collections import Counter
 from functools import cache
 
 from model import demand_3, printing
-from model.fields import FIELD_RANGES
+from model.fields import FIELD_RANGES, WATER
 from model.judging import Anchored
 from model.printing import MARKER_READS
 from model.refusals import D100
-from vectors import case_vectors
+from model.sheet_bytes import VERSION_AT
+from vectors import case_vectors, marker_liquor, marker_liquor_random
 from vectors.judge_cases import counted
 from vectors.judge_need_steps import courses_of, told_by
+from vectors.liquor_readings import IN_COURSES, IN_RESISTANCE
+from vectors.liquor_readings import RIGHT as RIGHT_IN_LIQUOR
+from vectors.liquor_readings import told_by as told_by_liquor
 from vectors.marker_cases import (
     LONGEST, MOST_BYTES, SHORTEST, Case, marked, readable, text_of,
 )
@@ -31,7 +36,7 @@ from vectors.marker_texts import (
 from vectors.need_points import ASTRAY, RIGHT
 from vectors.record_answers import Judged
 
-LEAST_SHEETS, MOST_SHEETS = 5_000, 9_000
+LEAST_SHEETS, MOST_SHEETS = 5_000, 13_000
 
 # --- All groups ---------------------------------------------------------------
 
@@ -46,13 +51,33 @@ GROUPS = (
     random_self_anchored, random_anchored, random_even, random_refused, random_damage,
     random_changes, random_noise, *IN_STEPS,
 )
-LATER_GROUPS = (high_edges_at_steps,)       # stored after the cases that people can read
+GRAVITY_SHOWS = (
+    marker_liquor.needs_beside_steps_in_liquor, marker_liquor.courses_read_astray,
+    marker_liquor.resistances_read_astray, marker_liquor.equality_in_liquor,
+)
+IN_LIQUOR = (
+    marker_liquor.both_versions_printed, marker_liquor.example_in_liquor,
+    marker_liquor.tried_by_hand_of_version_2,
+    marker_liquor.refusals_of_version_2, marker_liquor.fields_outside_in_version_2,
+    marker_liquor.two_fields_outside_in_version_2, marker_liquor.agreement_in_version_2,
+    marker_liquor.cuts_of_version_2, marker_liquor.additions_to_version_2,
+    marker_liquor.lengths_and_versions, marker_liquor.lengths_over_version_2,
+    marker_liquor.versions_and_counts_of_version_2, marker_liquor.other_layout,
+    marker_liquor.exchanged_with_gravity,
+    *GRAVITY_SHOWS,
+    marker_liquor.largest_in_liquor, marker_liquor.course_counts_in_liquor,
+    marker_liquor_random.random_self_anchored_in_liquor,
+    marker_liquor_random.random_anchored_in_liquor, marker_liquor_random.random_even_in_liquor,
+    marker_liquor_random.random_refused_in_liquor, marker_liquor_random.random_damage_in_liquor,
+    marker_liquor_random.random_changes_in_liquor, marker_liquor_random.random_noise_in_liquor,
+)
+LATER_GROUPS = (high_edges_at_steps, *IN_LIQUOR)    # stored after the cases that people can read
 
 
 @cache
 def group_cases():
     """Name of the group to its cases, without bytes that came before; those that people can read,
-    all of them, stand before the later groups."""
+    all of them, stand before the later groups, but for what came with a request."""
     before = set()
     groups = {}
     for group in (*GROUPS, *LATER_GROUPS):
@@ -61,7 +86,9 @@ def group_cases():
         groups[group.__name__] = list(cases.values())
     later = {group.__name__: groups.pop(group.__name__) for group in LATER_GROUPS}
     return {**groups, **{f"cases_{name}": list(map(Case, contents))
-                         for name, contents in case_vectors.group_sheets().items()}, **later}
+                         for name, contents in case_vectors.BEFORE.group_sheets().items()}, **later,
+            **{f"cases_s_8_{name}": list(map(Case, contents))
+               for name, contents in case_vectors.S_8.group_sheets().items()}}
 
 
 def all_cases():
@@ -209,6 +236,24 @@ def check_steps():
         assert otherwise >= 40 and turned >= 5, (name, otherwise, turned)
 
 
+def check_versions():
+    """Sheets of either version, and reports of many with gravity above water's; each reading of S-8
+    that goes astray is told apart by some text."""
+    reports = [marked(content) for content, _was in all_cases()
+               if word_on(text_of(content)) != "refused"]
+    versions = Counter(content[VERSION_AT] for content, _was in all_cases() if readable(content))
+    assert {*versions} == {1, 2} and min(versions.values()) >= 500
+    heavy = [Judged(sheet, D100, *answer) for sheet, answer in reports
+             if sheet.tank.gravity > WATER]
+    assert len(heavy) >= 400 and told_by_liquor(RIGHT_IN_LIQUOR, heavy) == (0, 0)
+    by_hand = [Judged(sheet, D100, *answer) for group in GRAVITY_SHOWS
+               for sheet, answer in (marked(one.content) for one in group_cases()[group.__name__])]
+    for name, reading in {**IN_COURSES, **IN_RESISTANCE}.items():
+        if name != "head before the foot":      # it is API 650's
+            otherwise, turned = told_by_liquor(reading, by_hand)
+            assert otherwise >= 4 and turned >= 2, (name, otherwise, turned)
+
+
 def check_refusals():
     """All that bytes lead to, 16 with every field."""
     words = {one for one in texts() if word_on(one) == "refused"}
@@ -247,6 +292,7 @@ def self_test():
     check_numbers()
     check_lighter_tanks()
     check_steps()
+    check_versions()
     check_refusals()
     check_over_long()
     check_sizes()

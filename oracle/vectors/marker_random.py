@@ -2,11 +2,7 @@
 
 from random import Random
 
-from model.fields import FIELD_RANGES
-from model.sheet_bytes import (
-    COUNT_AT, COURSE_BYTES, FIRST_FIELD_AT, HEAD_BYTES, VERSION, VERSION_AT, bytes_with,
-    sheet_as_bytes,
-)
+from model.sheet_bytes import COURSE_BYTES, FIRST_FIELD_AT, VERSION_1, VERSION_AT
 from vectors.byte_changes import exchange, put_length, right_length
 from vectors.judge_cases import with_figure
 from vectors.marker_cases import Case, altered, readable, whole
@@ -17,6 +13,7 @@ from vectors.steps_random import (
     damage_by_cut, damage_by_gap, damage_by_insertion, damage_by_swap, damage_field, damage_length,
     damage_one_bit, damage_one_byte, random_sheet,
 )
+from vectors.version_1 import COUNT_AT, FIELD_RANGES, HEAD_BYTES, bytes_with, sheet_as_bytes
 
 # --- Groups: at random, from fixed seeds --------------------------------------
 
@@ -150,7 +147,7 @@ def random_noise():
         if rng.random() < 0.7:
             put_length(content, max(right_length(content), 0))
         if rng.random() < 0.7:
-            content[VERSION_AT:FIRST_FIELD_AT] = bytes((VERSION,))
+            content[VERSION_AT:FIRST_FIELD_AT] = bytes((VERSION_1.version,))
         if rng.random() < 0.7 and len(content) > HEAD_BYTES:
             content[COUNT_AT] = courses_in(content)
         yield Case(bytes(content))

@@ -4,15 +4,11 @@ and exchanged.
 
 from itertools import combinations, product
 
-from model import sheet_bytes
-from model.fields import COURSE_FIELDS, FIELD_RANGES, HEAD_FIELDS, NUMBER_OF, field_in_range
+from model.fields import COURSE_FIELDS, NUMBER_OF, field_in_range
 from model.filling_in import shell_height
 from model.printing import EXAMPLE_TEXT, refusal_word
 from model.refusals import FIELD_REFUSAL
-from model.sheet_bytes import (
-    COUNT_AT, COURSE_BYTES, HEAD_BYTES, LENGTH_BYTES, VERSION_AT, field_bytes, length_with,
-    sheet_as_bytes,
-)
+from model.sheet_bytes import COURSE_BYTES, LENGTH_BYTES, VERSION_AT
 from vectors import steps_orders
 from vectors.byte_changes import (
     exchange, field_damage, put_field, right_length, with_byte, with_length,
@@ -29,6 +25,10 @@ from vectors.start_sheets import EXAMPLE_BYTES, FULL_BYTES, courses_to
 from vectors.steps_bytes import length_word
 from vectors.steps_in_turn import PLATE_CASES, anchor_cases
 from vectors.steps_orders import BYTES_ORDER, all_at_once, one_or_two
+from vectors.version_1 import (
+    COUNT_AT, FIELD_RANGES, HEAD_BYTES, HEAD_FIELDS, as_bytes, field_bytes, length_with,
+    sheet_as_bytes,
+)
 
 # --- Groups: document 01's cases, and those tried by hand ---------------------
 
@@ -55,7 +55,7 @@ def cases_on_the_tank():
     yield refused("refused 37", sheet_as_bytes(changed(EXAMPLE, H=28_801)))
     for width in (5_000, 9_600):        # 65,000 in all, and too high
         courses = [EXAMPLE.courses[0]._replace(width=width)] * 13
-        content = sheet_bytes.as_bytes(EXAMPLE.tank, EXAMPLE.site, EXAMPLE.anchors, courses)
+        content = as_bytes(EXAMPLE.tank, EXAMPLE.site, EXAMPLE.anchors, courses)
         yield refused("refused 13", content)
 
 

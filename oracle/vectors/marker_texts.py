@@ -8,7 +8,6 @@ from model.demand_3 import JUST_PAST, STEPPED
 from model.fields import Anchors, field_in_range
 from model.filling_in import shell_height
 from model.refusals import D100
-from model.sheet_bytes import sheet_as_bytes
 from model.tank_rules import BOLT_CHART, house_floor, resistance, shell_weight_on_rim, wind_moment
 from vectors.judge_cases import (
     EXAMPLE, FIFTHS, SELF, TALL_FIFTHS, TALL_UPWARD, UPWARD, changed, course_changed, self_anchored,
@@ -28,6 +27,7 @@ from vectors.need_points import (
 from vectors.random_sheets import within
 from vectors.scripts import subsets
 from vectors.start_sheets import FULL_COURSES, widths_to
+from vectors.version_1 import sheet_as_bytes
 
 # --- Groups: texts that tell printing mistakes apart --------------------------
 

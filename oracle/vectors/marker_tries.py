@@ -14,9 +14,13 @@ import time
 from typing import Callable, NamedTuple
 
 from model import printing
-from model.sheet_bytes import HEAD_BYTES, LENGTH_BYTES, sheet_as_bytes
+from model.demand_3_liquor import GRAVITY, filled_with
+from model.fields import GRAVITY_FIELD
+from model.sheet_bytes import LENGTH_BYTES, VERSION_1, VERSION_2, VERSION_AT
+from vectors.byte_changes import with_byte, with_length
 from vectors.judge_cases import EXAMPLE, changed, with_widths
-from vectors.start_sheets import EXAMPLE_BYTES, FULL_BYTES
+from vectors.start_sheets import EXAMPLE_BYTES, FULL, FULL_BYTES
+from vectors.version_1 import HEAD_BYTES, sheet_as_bytes
 
 PATIENCE = 10       # seconds, for the program to end
 FEEDING = 1.5       # for all pieces to be read
@@ -46,6 +50,35 @@ def inputs(most):
         tried[f"{name}, one byte more"] = content + b"\0", "refused 12"
         tried[f"{name}, one byte less"] = content[:-1], "refused 11"
         tried[f"{name}, many bytes more"] = content.ljust(20_000, b"\1"), "refused 12"
+    return tried
+HEAVY_SHEETS = {    # of version 2; each is called sound
+    f"{name}, with gravity": VERSION_2.sheet_as_bytes(filled_with(GRAVITY, sheet))
+    for name, sheet in (("the example", EXAMPLE), ("a sheet of one course", ONE_COURSE),
+                        ("a sheet of twelve courses", FULL))
+}
+LONGEST_SHEET = HEAVY_SHEETS["a sheet of twelve courses, with gravity"]
+
+
+def inputs_of_version_2():
+    """The same of version 2. The longest sheet has 304 bytes, of which the marker reads one
+    more."""
+    assert len(LONGEST_SHEET) == 304
+    tried = {"304 bytes of 0": (bytes(304), "refused 13"),
+             "305 bytes of 0": (bytes(305), "refused 13")}
+    for name, content in HEAVY_SHEETS.items():
+        tried[name] = content, "tank sound"
+        tried[f"{name}, one byte more"] = content + b"\0", "refused 12"
+        tried[f"{name}, one byte less"] = content[:-1], "refused 11"
+        tried[f"{name}, many bytes more"] = content.ljust(20_000, b"\2"), "refused 12"
+        tried[f"{name}, said to be version 1"] = with_byte(content, VERSION_AT, 1), "refused 14"
+        heavier = VERSION_2.with_field_bytes(content, GRAVITY_FIELD, 1_301)
+        tried[f"{name}, a thousandth too much"] = heavier, "refused 16 20"
+    first = VERSION_1.sheet_as_bytes(FULL)
+    tried["twelve courses, said to be version 2"] = with_byte(first, VERSION_AT, 2), "refused 14"
+    tried["twelve courses of version 1, four bytes more"] = first + bytes(4), "refused 12"
+    longer = with_length(first, VERSION_2.length_with(12))
+    tried["twelve courses of version 1, with the other length"] = longer, "refused 11"
+    tried["the same and four bytes more"] = longer + bytes(4), "refused 14"
     return tried
 
 
@@ -127,12 +160,17 @@ def in_pieces(name, content, *places):
 
 
 def all_tries():
-    for name, (content, _last_line) in inputs(most=65_536).items():
+    for name, (content, _last_line) in {**inputs(most=65_536), **inputs_of_version_2()}.items():
         yield in_pieces(name, content)
-    for name, content in SHEETS.items():
+    for name, content in {**SHEETS, **HEAVY_SHEETS}.items():
         yield in_pieces(f"{name}, byte by byte", content, *range(1, len(content)))
-    longer = FULL_BYTES + b"\0"
-    yield in_pieces("one byte more than twelve courses, by itself", longer, len(FULL_BYTES))
+    for whole in (FULL_BYTES, LONGEST_SHEET):
+        yield in_pieces(f"one byte more than twelve courses, {len(whole)}, by itself",
+                        whole + b"\0", len(whole))
+    yield in_pieces("two bytes more than twelve courses, each by itself", LONGEST_SHEET + b"\0\0",
+                    304, 305)
+    for place in (3, 27, 31, 63, 64, 304 - 20, 303):
+        yield in_pieces(f"twelve courses, parted after {place}", LONGEST_SHEET, place)
     for place in (1, 2, 3, HEAD_BYTES - 1, HEAD_BYTES, HEAD_BYTES + 1, len(EXAMPLE_BYTES) - 1):
         yield in_pieces(f"the example, parted after {place}", EXAMPLE_BYTES, place)
     yield Try("a closed standard input", b"", closed)
@@ -172,6 +210,6 @@ def try_program(path):
 
 def self_test():
     """The last lines, said by hand."""
-    for name, (content, last_line) in inputs(most=65_536).items():
+    for name, (content, last_line) in {**inputs(most=65_536), **inputs_of_version_2()}.items():
         *_before, last = printing.marked_text(content).decode("ascii").splitlines()
         assert last == last_line, (name, last)

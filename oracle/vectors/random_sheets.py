@@ -1,12 +1,13 @@
 """Random sheets for judging, drawn so that most checks are at equality or close to it.
 
 Each rule is met by nothing or by little; those asked to be broken are missed by little, as far
-as the ranges let them be. The courses' rule is that of the method handed in. Document 01's
-letters; every draw comes from the rng handed in.
+as the ranges let them be. The courses' rule is that of the method handed in, and the tank holds
+water, if no other gravity is handed in (S-8). Document 01's letters; every draw comes from the rng
+handed in.
 """
 
 from model.arithmetic import rounded_down, rounded_up
-from model.fields import FIELD_RANGES, Anchors, Course, Site, Tank
+from model.fields import FIELD_RANGES, WATER, Anchors, Course, Site, Tank
 from model.filling_in import SELF_ANCHORED, sheet_of
 from model.refusals import API_650, D100, MOST_COURSES, MOST_SHELL_HEIGHT
 from model.tank_rules import (
@@ -91,29 +92,29 @@ def moment_of(wind, D, course_widths):
 # --- Courses ------------------------------------------------------------------
 
 
-def stress_and_efficiency(rng, h, D):
+def stress_and_efficiency(rng, h, D, gravity):
     """Such that a plate in range can do; h as the method has it."""
     while True:
         s, E = even(rng, 18), even(rng, 19)
-        if hoop_need(h, D, s, E) <= MOST_NEED:
+        if hoop_need(h, D, s, E, gravity) <= MOST_NEED:
             return s, E
 
 
-def course(rng, D, h, width, broken):
-    s, E = stress_and_efficiency(rng, h, D)
+def course(rng, D, h, width, gravity, broken):
+    s, E = stress_and_efficiency(rng, h, D, gravity)
     c = rng.choice((0, 0, even(rng, 17)))
-    required = required_plate(hoop_need(h, D, s, E), c, D)
+    required = required_plate(hoop_need(h, D, s, E, gravity), c, D)
     t = required - 1 - little(rng, 5) if broken else required + little(rng, 40)
     return Course(width=width, t=within(16, max(t, c + 1)), c=c, s=s, E=E)
 
 
-def courses(rng, D, H, course_widths, method, broken):
+def courses(rng, D, H, course_widths, method, gravity, broken):
     """At most one of them broken."""
     wrong = rng.randrange(len(course_widths)) if broken else None
     edge = 0
     for place, width in enumerate(course_widths):
         h = hoop_head(method, course_head(H, edge))
-        yield course(rng, D, h, width, place == wrong)
+        yield course(rng, D, h, width, gravity, place == wrong)
         edge += width
 
 
@@ -159,22 +160,22 @@ def pull_aimed_at(rng, most, broken):
                        rng.randint(-most, most)))
 
 
-def self_anchored_sheet(rng, method=D100):
+def self_anchored_sheet(rng, method=D100, gravity=WATER):
     broken = broken_rules(rng, SELF_RULES)
     D, course_widths = diameter(rng), widths(rng)
     H, of_bottom = water_level(rng, course_widths, method), bottom(rng)
     wind = wind_figures(rng)
     Av = rng.choice((0, even(rng, 10)))
     W = self_weight(rng, moment_of(wind, D, course_widths), D, "wind" in broken)
-    tank = Tank(D=D, H=H, W=W, **of_bottom)
-    wL = water_on_rim(tank.plate - tank.allowance, tank.Fy, H, D)
+    tank = Tank(D=D, H=H, W=W, **of_bottom, gravity=gravity)
+    wL = water_on_rim(tank.plate - tank.allowance, tank.Fy, H, D, gravity)
     T = resistance(D, shell_weight_on_rim(W, Av, D), wL)
     Ms = earthquake_moment(rng, T, "earthquake" in broken)
-    shell = list(courses(rng, D, H, course_widths, method, "course" in broken))
+    shell = list(courses(rng, D, H, course_widths, method, gravity, "course" in broken))
     return sheet_of(tank, Site(**wind, Av=Av, Ms=Ms), SELF_ANCHORED, shell)
 
 
-def anchored_sheet(rng, method=D100):
+def anchored_sheet(rng, method=D100, gravity=WATER):
     broken = broken_rules(rng, ANCHORED_RULES)
     D, course_widths = diameter(rng), widths(rng)
     H, of_bottom = water_level(rng, course_widths, method), bottom(rng)
@@ -185,9 +186,9 @@ def anchored_sheet(rng, method=D100):
     most = most_borne(d)
     aims = [pull_aimed_at(rng, most, f"{name} pull" in broken) for name in ("wind", "earthquake")]
     W = within(3, rounded_up(4_800 * M - N * B * aims[0], B) - ("wind pull" in broken))
-    shell = list(courses(rng, D, H, course_widths, method, "course" in broken))
+    shell = list(courses(rng, D, H, course_widths, method, gravity, "course" in broken))
     Av = even(rng, 10)
     upward = N * aims[1] + weight_in_earthquake(W, Av)      # 4,800 Ms / B
     Ms = within(11, rounded_down(upward * B, 4_800) + ("earthquake pull" in broken))
-    return sheet_of(Tank(D=D, H=H, W=W, **of_bottom), Site(**wind, Av=Av, Ms=Ms),
-                    Anchors(N=N, B=B, d=d), shell)
+    return sheet_of(Tank(D=D, H=H, W=W, **of_bottom, gravity=gravity),
+                    Site(**wind, Av=Av, Ms=Ms), Anchors(N=N, B=B, d=d), shell)

@@ -47,7 +47,8 @@ def new():
 
 
 def tank(figures):
-    return figures_record(TANK, figures)
+    """Seven of them; of a tank told by six the gravity is water's."""
+    return figures_record(TANK, Tank(*figures))
 
 
 def site(figures):

@@ -2,7 +2,7 @@
 
 from model import sheet_bytes
 from model.filling_in import EMPTY, left_by_a_run, left_by_description
-from model.sheet_bytes import bytes_as_figures
+from model.sheet_bytes import VERSION_2, VERSION_AT, bytes_as_figures
 from vectors.record_answers import lent_buffer
 from vectors.records import (
     ASKING, COMPRESSION, COMPRESSION_HELD, FORGE, JUDGE, JUDGE_HELD, JUDGING, OPENING, READ, WRITE,
@@ -13,10 +13,16 @@ from vectors.records import (
 
 
 def check_read_and_write(content, result):
-    """Reading then writing accepted bytes gives the same bytes, and they state anchors."""
+    """Reading then writing accepted bytes of version 2 gives the same bytes; from those of version
+    1 it gives version 2's, with the same meaning. They state anchors."""
     if result.word == "ok":
-        written = sheet_bytes.write(result.sheet, bytes(len(content)))
-        assert written == (None, len(content), content)
+        version = content[VERSION_AT]
+        size = VERSION_2.bytes_with(result.sheet.count)
+        refusal, number, written = sheet_bytes.write(result.sheet, bytes(size))
+        assert (refusal, number, len(written)) == (None, size, size)
+        assert written == content if version == 2 \
+            else (version, result.sheet.tank.gravity) == (1, 1_000)
+        assert sheet_bytes.read(written) == (None, result.sheet)
         assert result.sheet.anchors is not None
     else:
         assert result.sheet == EMPTY

@@ -11,7 +11,7 @@ from model.fields import FIELD_RANGES, Anchors, Course, Tank, field_in_range, wi
 from model.filling_in import left_by_a_run, made, run_to
 from model.printing import refusal_word
 from model.refusals import FIELD_REFUSAL
-from model.sheet_bytes import bytes_with
+from model.sheet_bytes import VERSION_1, VERSION_2
 from vectors.record_answers import outcomes
 from vectors.records import OPENING, STEPS, figures_record, forge, new, write
 
@@ -49,12 +49,18 @@ def steps_to(sheet):
 
 def wrote(n):
     """The word for a sheet of n courses."""
-    return f"wrote {bytes_with(n)}"
+    return f"wrote {VERSION_2.bytes_with(n)}"
 
 
-def write_for(n, fill, more=0):
-    """Writing with room for n courses, or so many bytes more."""
-    return write(bytes_with(n) + more, fill)
+def write_for(n, fill, more=0, layout=VERSION_1):
+    """Writing with as many bytes as the version has for n courses, or so many more. Version 1's is
+    the size that was enough before request S-8."""
+    return write(layout.bytes_with(n) + more, fill)
+
+
+def write_word(n, more=0, layout=VERSION_1):
+    """The word for that, on a sheet of n courses."""
+    return wrote(n) if layout.bytes_with(n) + more >= VERSION_2.bytes_with(n) else "refused 19"
 
 
 def holding(sheet):

@@ -4,9 +4,9 @@ alike.
 
 from model import filling_in
 from model.fields import Anchors, Course, Site, Tank
-from model.filling_in import NO_COURSE, SELF_ANCHORED, all_of, sheet_of
+from model.filling_in import NO_COURSE, SELF_ANCHORED, sheet_of
 from model.refusals import MOST_COURSES
-from model.sheet_bytes import sheet_as_bytes
+from vectors.version_1 import all_of, sheet_as_bytes
 
 # --- Sheets that the groups start from ----------------------------------------
 

@@ -2,18 +2,16 @@
 
 from itertools import product
 
-from model import example, sheet_bytes
-from model.fields import COURSE_FIELDS, FIELD_RANGES, SITE_FIELDS, TANK_FIELDS
+from model import example
+from model.fields import COURSE_FIELDS, SITE_FIELDS
 from model.filling_in import SELF_ANCHORED, sheet_of
 from model.refusals import MOST_COURSES
-from model.sheet_bytes import (
-    COUNT_AT, COURSE_BYTES, HEAD_BYTES, VERSION_AT, bytes_with, length_with, sheet_as_bytes,
-)
+from model.sheet_bytes import COURSE_BYTES, LAYOUTS, VERSION_AT
 from vectors.byte_changes import put_field, right_length, with_byte, with_length
 from vectors.records import MOST_BUFFER, MOST_READ, anchors, new, read, site, write
 from vectors.scripts import (
     answers, case, holding, just_outside, range_word, steps_to, unstated, with_anchors,
-    with_outside, with_plate, with_slot, write_for, wrote,
+    with_outside, with_plate, with_slot, write_for, write_word, wrote,
 )
 from vectors.start_sheets import (
     FULL_ANCHORS, FULL_BYTES, FULL_COURSES, FULL_SITE, FULL_TANK, LOW_COURSE, ONE, ONE_BYTES, THREE,
@@ -21,16 +19,21 @@ from vectors.start_sheets import (
 )
 from vectors.steps_forged import all_at
 from vectors.steps_in_turn import PLATE_CASES, REFUSED_COURSES, anchor_cases
+from vectors.version_1 import (
+    COUNT_AT, FIELD_RANGES, HEAD_BYTES, TANK_FIELDS, as_bytes, bytes_with, length_with,
+    sheet_as_bytes,
+)
 
 # --- Groups: write ------------------------------------------------------------
 
 
 def write_sizes():
-    """One byte short, exact, one longer, much longer, none; then the sheet is as it was."""
+    """One byte short of version 1, exact, one longer, much longer, none; then the sheet is as it
+    was."""
     for n in range(1, 13):
         need = bytes_with(n)
         one_less = bytes_with(n - 1)
-        sizes = ((need - 1, "refused 19"), (need, wrote(n)), (need + 1, wrote(n)),
+        sizes = ((need - 1, "refused 19"), (need, write_word(n)), (need + 1, write_word(n, 1)),
                  (MOST_BUFFER, wrote(n)), (0, "refused 19"), (one_less, "refused 19"))
         lent = [write(size, (37 * n + 91 * place) % 256) for place, (size, _) in enumerate(sizes)]
         words = ["ok"] * (n + 3) + [word for _size, word in sizes] + ["ok"]
@@ -40,7 +43,7 @@ def write_sizes():
 def write_fills():
     """The bytes behind the sheet's, and the whole buffer of a refused write, stay."""
     for fill in (0, 1, 127, 128, 136, 200, 255):
-        yield answers([wrote(1), "refused 19", "refused 19", "held", "refused 32"],
+        yield answers([write_word(1, 60), "refused 19", "refused 19", "held", "refused 32"],
                       read(ONE_BYTES), write_for(1, fill, 60), write_for(1, fill, -1),
                       write(1, fill), new(), write_for(2, fill))
 
@@ -66,7 +69,7 @@ def write_unstated_anchors():
     for n, site_figures in product(range(MOST_COURSES + 1), (FULL_SITE, None)):
         need = bytes_with(n)
         lack = "refused 35" if n == 0 else "refused 36" if site_figures is None else None
-        words = [lack or "refused 38"] * 4 + ["ok", lack or wrote(n)]
+        words = [lack or "refused 38"] * 4 + ["ok", lack or write_word(n)]
         before = holding(unstated(full_with(n))._replace(site=site_figures))
         lent = [write(size, 19 * n) for size in (0, need - 1, need, need + 1)]
         yield answers(["ok"] * (len(before) - 1) + words, *before, *lent, anchors((0, 0, 0)),
@@ -106,12 +109,13 @@ def longer_bytes():
         yield case("refused 12", read(content.ljust(MOST_READ, b"\xff")))
 
 
-GOOD_LENGTHS = tuple(length_with(n) for n in range(1, MOST_COURSES + 1))
+FIRST_LENGTHS, SECOND_LENGTHS = (
+    tuple(layout.length_with(n) for n in range(1, MOST_COURSES + 1)) for layout in LAYOUTS)
 
 
 def length_word(L, right):
     """Over the body of a sheet whose L is right."""
-    if L not in GOOD_LENGTHS:
+    if L not in FIRST_LENGTHS + SECOND_LENGTHS:
         return "refused 13"
     return "ok" if L == right else "refused 12" if L < right else "refused 11"
 
@@ -120,7 +124,7 @@ def every_length():
     one, three = (right_length(content) for content in (ONE_BYTES, THREE_BYTES))
     for L in range(401):        # past the last one, and past that of a thirteenth course
         yield case(length_word(L, one), read(with_length(ONE_BYTES, L)))
-    for L in (0, one - 1, *GOOD_LENGTHS, three - 1, three + 1, GOOD_LENGTHS[-1] + 1,
+    for L in (0, one - 1, *FIRST_LENGTHS, three - 1, three + 1, FIRST_LENGTHS[-1] + 1,
               length_with(13)):
         yield case(length_word(L, three), read(with_length(THREE_BYTES, L)))
     # such as a byte's worth of n, or a wrong order of L's two bytes, takes for right
@@ -132,7 +136,7 @@ def every_length():
 def length_of_no_sheet():
     """No course, or thirteen and more, with L, the bytes and the count byte of one mind."""
     for n in (0, 13, 14, 15, 20, (MOST_READ - HEAD_BYTES) // COURSE_BYTES):
-        content = sheet_bytes.as_bytes(FULL_TANK, FULL_SITE, FULL_ANCHORS, (LOW_COURSE,) * n)
+        content = as_bytes(FULL_TANK, FULL_SITE, FULL_ANCHORS, (LOW_COURSE,) * n)
         yield case("refused 13", read(content))
 
 
@@ -158,11 +162,11 @@ def ranges_in_bytes():
     places += product(COURSE_FIELDS, (0, 1, 2))
     for field, place in places:
         for figure in sorted({*FIELD_RANGES[field], *just_outside(field)}):
-            content = bytearray(sheet_bytes.as_bytes(*parts))
+            content = bytearray(as_bytes(*parts))
             put_field(content, field, figure, place)
             word = range_word(field, figure)
             again = [write_for(3, field, 5)] if word == "ok" else []
-            yield case(wrote(3) if again else word, read(content), *again)
+            yield case(write_word(3, 5) if again else word, read(content), *again)
 
 
 def anchors_in_bytes():
@@ -211,5 +215,5 @@ def everything_small():
         yield case("refused 11", read(bytes((byte,))))
     pairs, triples = product(few, repeat=2), product((0, 1, *lengths[1:], 255), repeat=3)
     for high, low, *rest in (*pairs, *triples):
-        word = "refused 11" if 256 * high + low in GOOD_LENGTHS else "refused 13"
+        word = "refused 11" if 256 * high + low in FIRST_LENGTHS + SECOND_LENGTHS else "refused 13"
         yield case(word, read(bytes((high, low, *rest))))

@@ -4,23 +4,23 @@ from itertools import product
 
 from model import example
 from model.fields import (
-    ANCHOR_FIELDS, COURSE_FIELDS, ENTRIES, FIELD_RANGES, NUMBER_OF, SITE_FIELDS, TANK_FIELDS,
-    Anchors, Course, Site, Tank, with_field,
+    ANCHOR_FIELDS, COURSE_FIELDS, ENTRIES, SITE_FIELDS, Anchors, Course, Site, Tank,
+    with_field,
 )
-from model.filling_in import EMPTY, NO_COURSE, SELF_ANCHORED, Sheet, all_of, sheet_of
+from model.filling_in import EMPTY, NO_COURSE, SELF_ANCHORED, Sheet, sheet_of
 from model.refusals import MOST_COURSES
-from model.sheet_bytes import bytes_with
 from vectors.record_answers import outcomes
 from vectors.records import MOST_BUFFER, anchors, course, forge, site, tank, write
 from vectors.scripts import (
     U32_MOST, answers, just_outside, unstated, with_anchors, with_outside, with_plate, with_slot,
-    wrote,
+    write_word,
 )
 from vectors.start_sheets import (
     EXAMPLE, FULL, FULL_ANCHORS, FULL_COURSES, FULL_SITE, FULL_TANK, LOW_COURSE, NO_SITE, NO_TANK,
     ONE, TANK_ONLY, THREE, WIDE_COURSE, WIDE_TANK, courses_to, full_with, high_sheet, widths_to,
 )
 from vectors.steps_in_turn import PLATE_CASES
+from vectors.version_1 import FIELDS_OF, FIELD_RANGES, TANK_FIELDS, all_of, bytes_with
 
 # --- Groups: forged sheets ----------------------------------------------------
 
@@ -68,7 +68,8 @@ def forged_figures():
 
 
 def forged_counts():
-    """At and above 13 also such as a narrower number, or 60 + 20 n in 32 bits, takes for less."""
+    """At and above 13 also such as a narrower number, or version 1's size in 32 bits, takes for
+    less."""
     for count in (0, 11, 13, 14, 256 + 12, 2**16 + 12, 2**31 + 12, 214_748_377, U32_MOST):
         yield refused_30(FULL._replace(count=count))
     for count in (0, 1, 2, 4, 5, 11, 12, 13, 256 + 3, 2**16 + 3, 214_748_368, U32_MOST):
@@ -201,7 +202,7 @@ def forged_ends_taken():
 def all_at(end, widths):
     """Every figure at the same end of its range, as far as they agree with each other."""
     tank_there, site_there, course_there = (
-        entry._make(FIELD_RANGES[NUMBER_OF[name]][end] for name in entry._fields)
+        entry(*(FIELD_RANGES[field][end] for field in FIELDS_OF[entry]))
         for entry in (Tank, Site, Course))
     anchored = (200, 300_000, 16) if end else (6, 12_000, 6)
     return sheet_of(tank_there, site_there, anchored,
@@ -231,7 +232,7 @@ def forged_anchors_unstated():
     """Beside every number of courses a run leaves anchors unstated, or N = 0 stated."""
     for n in range(MOST_COURSES + 1):
         last = "refused 33" if n == 12 else "ok"
-        for figures, word in ((None, "refused 38"), ((0, 0, 0), wrote(n))):
+        for figures, word in ((None, "refused 38"), ((0, 0, 0), write_word(n))):
             first = "refused 35" if n == 0 else word
             sheet = with_anchors(full_with(n), figures)
             yield answers([first, "refused 31", "ok", "ok", last], *asked(sheet))

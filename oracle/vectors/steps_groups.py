@@ -3,7 +3,6 @@
 from collections import Counter
 from functools import cache
 
-from model.fields import FIELD_RANGES
 from model.filling_in import EMPTY
 from model.sheet_bytes import bytes_as_figures
 from vectors.record_answers import outcomes, sheet_text
@@ -34,6 +33,7 @@ from vectors.steps_orders import (
 from vectors.steps_random import (
     random_bytes_sheets, random_damage, random_forged, random_noise, random_steps,
 )
+from vectors.version_1 import FIELD_RANGES
 
 LEAST_RECORDS = 2_500
 
@@ -84,13 +84,13 @@ def check_forms():
                                  (with_anchors(EXAMPLE, (0, 0, 0)), (1, 0, 0, 0), "0 0 0"),
                                  (unstated(EXAMPLE), (0, 0, 0, 0), "-")):
         assert bytes_as_figures(forge(sheet).payload) == (
-            1, 14_400, 28_800, 11_000, 250, 0, 36_000, 1, 105, 109, 115, 27, 30_000, *stated, 3,
-            *three, *(0,) * 45)
+            1, 14_400, 28_800, 11_000, 250, 0, 36_000, 1_000, 1, 105, 109, 115, 27, 30_000,
+            *stated, 3, *three, *(0,) * 45)
         assert sheet_text(sheet) == (
-            " tank 14400 28800 11000 250 0 36000 site 105 109 115 27 30000 "
+            " tank 14400 28800 11000 250 0 36000 1000 site 105 109 115 27 30000 "
             f"anchors {shown} count 3{' course 9600 250 0 15000 85' * 3}{' -' * 9}")
-    assert forge(EMPTY).payload == bytes(4 * 78)
-    assert forged_places() == (range(1, 7), range(8, 13), range(14, 17), range(18, 78))
+    assert forge(EMPTY).payload == bytes(4 * 79)
+    assert forged_places() == (range(1, 8), range(9, 14), range(15, 18), range(19, 79))
     assert sheet_text(EMPTY) == f" tank - site - anchors - count 0{' -' * 12}"
 
 

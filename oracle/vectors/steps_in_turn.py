@@ -5,14 +5,12 @@ anchors unstated and stated (request S-1); courses.
 from itertools import combinations, permutations, product
 
 from model import example
-from model.fields import (
-    ANCHOR_FIELDS, COURSE_FIELDS, FIELD_RANGES, SITE_FIELDS, TANK_FIELDS, Course, with_field,
-)
-from model.filling_in import NO_COURSE, SELF_ANCHORED, all_of, sheet_of
+from model.fields import ANCHOR_FIELDS, COURSE_FIELDS, SITE_FIELDS, Course, with_field
+from model.filling_in import NO_COURSE, SELF_ANCHORED, sheet_of
 from vectors.records import anchors, course, forge, new, read, site, tank
 from vectors.scripts import (
     U32_MOST, answers, case, end_figures, range_word, steps_to, unstated, with_outside, with_plate,
-    write_for, wrote,
+    write_for, write_word, wrote,
 )
 from vectors.start_sheets import (
     EXAMPLE, FULL, FULL_ANCHORS, FULL_COURSES, FULL_SITE, FULL_TANK, LOW_COURSE, NO_TANK, ONE,
@@ -20,6 +18,7 @@ from vectors.start_sheets import (
     high_sheet,
 )
 from vectors.steps_orders import first_of
+from vectors.version_1 import FIELD_RANGES, TANK_FIELDS, all_of
 
 # --- Groups: 16, 17 and 18 by steps -------------------------------------------
 
@@ -114,8 +113,9 @@ def restated_site():
     for field in SITE_FIELDS:
         least, greatest = FIELD_RANGES[field]
         changed = (site(with_field(FULL_SITE, field, figure)) for figure in (least, greatest))
-        yield answers(["ok"] * 4 + ["ok", "ok", wrote(1)], *before, *changed, write_for(1, field))
-        yield answers(["ok"] * 4 + [f"refused 16 {field}", wrote(1), "ok"], *before,
+        yield answers(["ok"] * 4 + ["ok", "ok", write_word(1)], *before, *changed,
+                      write_for(1, field))
+        yield answers(["ok"] * 4 + [f"refused 16 {field}", write_word(1), "ok"], *before,
                       site(with_outside(FULL_SITE, field)), write_for(1, field), site(example.SITE))
 
 
@@ -133,10 +133,10 @@ def restated_anchors():
     before = steps_to(ONE)
     words, wrong = zip(*REFUSED_ANCHORS)
     for figures in ACCEPTED_ANCHORS:
-        yield answers(["ok"] * 5 + [*words, wrote(1)], *before, anchors(figures),
+        yield answers(["ok"] * 5 + [*words, write_word(1)], *before, anchors(figures),
                       *map(anchors, wrong), write_for(1, 2))
-    yield case(wrote(1), *before, *map(anchors, ACCEPTED_ANCHORS), write_for(1, 3))
-    yield case(wrote(1), *before, *map(anchors, reversed(ACCEPTED_ANCHORS)), write_for(1, 4))
+    yield case(write_word(1), *before, *map(anchors, ACCEPTED_ANCHORS), write_for(1, 3))
+    yield case(write_word(1), *before, *map(anchors, reversed(ACCEPTED_ANCHORS)), write_for(1, 4))
 
 
 def restated_before_courses():
@@ -145,7 +145,7 @@ def restated_before_courses():
                   anchors((6, 20_000, 8)), course(FULL_COURSES[0]), anchors(FULL_ANCHORS),
                   site(example.SITE), course(FULL_COURSES[1]), site(FULL_SITE),
                   anchors(SELF_ANCHORED))
-    yield case(wrote(2), new(), tank(FULL_TANK), course(FULL_COURSES[0]), site(example.SITE),
+    yield case(write_word(2), new(), tank(FULL_TANK), course(FULL_COURSES[0]), site(example.SITE),
                course(FULL_COURSES[1]), anchors((6, 20_000, 8)), site(FULL_SITE), write_for(2, 5))
 
 
@@ -185,14 +185,14 @@ def unstated_then_stated():
     for sheet in (ONE, EXAMPLE):
         before = steps_to(unstated(sheet))
         n = sheet.count
-        words = ["ok"] * (len(before) - 1) + ["refused 38", "ok", wrote(n)]
+        words = ["ok"] * (len(before) - 1) + ["refused 38", "ok", write_word(n)]
         for figures in ACCEPTED_ANCHORS:
             yield answers(words, *before, write_for(n, 1), anchors(figures), write_for(n, 2))
         for one, other in permutations(((0, 0, 0), (6, 18_000, 6), (24, 18_654, 12)), 2):
-            yield answers([*words, "ok", wrote(n)], *before, write_for(n, 3), anchors(one),
+            yield answers([*words, "ok", write_word(n)], *before, write_for(n, 3), anchors(one),
                           write_for(n, 4), anchors(other), write_for(n, 5))
     # the same steps, with N = 0 stated and without
-    yield answers(["ok"] * 4 + [wrote(1), "held"] + ["ok"] * 3 + ["refused 38"], new(),
+    yield answers(["ok"] * 4 + [write_word(1), "held"] + ["ok"] * 3 + ["refused 38"], new(),
                   tank(FULL_TANK), anchors((0, 0, 0)), site(FULL_SITE), course(FULL_COURSES[0]),
                   write_for(1, 6), new(), tank(FULL_TANK), site(FULL_SITE), course(FULL_COURSES[0]),
                   write_for(1, 6))
@@ -207,7 +207,7 @@ def write_after_each_step():
         said = ["refused 32", "ok", "refused 35"]
         for place, number in enumerate(order, start=1):
             records += steps[number], write_for(1, place)
-            said += "ok", first_of(words, order[place:], wrote(1))
+            said += "ok", first_of(words, order[place:], write_word(1))
         yield answers(said, *records)
 
 
@@ -215,7 +215,7 @@ def refused_anchors_stay_unstated():
     """A refused statement leaves them unstated, and the next one may be accepted."""
     before = steps_to(unstated(ONE))
     for (word, wrong), right in product(REFUSED_ANCHORS, ((0, 0, 0), FULL_ANCHORS)):
-        yield answers(["ok"] * 3 + [word, "refused 38", "ok", wrote(1)], *before,
+        yield answers(["ok"] * 3 + [word, "refused 38", "ok", write_word(1)], *before,
                       anchors(wrong), write_for(1, 1), anchors(right), write_for(1, 2))
     words, wrong = zip(*REFUSED_ANCHORS)
     yield answers(["ok"] * 3 + [*words, "refused 38"], *before, *map(anchors, wrong),
@@ -238,13 +238,14 @@ def stated_anchors_stay():
              ("refused 35", write_for(12, 1)), ("ok", site(FULL_SITE)),
              ("refused 35", write_for(12, 2)),
              ("ok", course(FULL_COURSES[0])), ("refused 19", write_for(1, 3, -1)),
-             (wrote(1), write_for(1, 4)), ("ok", site(example.SITE)), (wrote(1), write_for(12, 5)))
+             (write_word(1), write_for(1, 4)), ("ok", site(example.SITE)),
+             (wrote(1), write_for(12, 5)))
     words, records = zip(*later)
     for figures in ACCEPTED_ANCHORS:
         yield answers(["ok", "ok", *words], new(), tank(FULL_TANK), anchors(figures), *records)
-    for n, word in ((11, "refused 34"), (12, "refused 33")):
+    for n, word, written in ((11, "refused 34", wrote(11)), (12, "refused 33", write_word(12))):
         for figures in ((0, 0, 0), FULL_ANCHORS):
-            yield answers(["ok"] * (n + 3) + [word, wrote(n)], new(), tank(FULL_TANK),
+            yield answers(["ok"] * (n + 3) + [word, written], new(), tank(FULL_TANK),
                           anchors(figures), site(FULL_SITE), *map(course, courses_to(76_800, n)),
                           course(LOW_COURSE), write_for(12, n))
 
@@ -254,7 +255,7 @@ def reading_states_anchors():
     is one: there the anchors of the sheet before are unstated."""
     again = (tank(FULL_TANK), site(FULL_SITE), course(FULL_COURSES[0]), write_for(1, 1))
     for content in (ONE_BYTES, SELF_BYTES):
-        yield answers(["ok"] * 4 + [wrote(1)], *steps_to(unstated(ONE)), read(content),
+        yield answers(["ok"] * 4 + [write_word(1)], *steps_to(unstated(ONE)), read(content),
                       write_for(1, 2))
         yield answers(["ok"] * 3 + ["refused 11", "refused 32"], *steps_to(unstated(ONE)),
                       read(content[:-1]), write_for(1, 3))
@@ -273,7 +274,7 @@ def thirteenth_course():
     low_sheet = sheet_of(example.TANK, example.SITE, example.ANCHORS, (LOW_COURSE,) * 12)
     for sheet in (FULL, low_sheet, high_sheet(76_800, 12), high_sheet(75_600, 12)):
         tries = [course(figures) for figures in (fine, wrong, equal, high, NO_COURSE)]
-        yield answers(["ok"] * 15 + ["refused 33"] * 5 + [wrote(12)], *steps_to(sheet), *tries,
+        yield answers(["ok"] * 15 + ["refused 33"] * 5 + [write_word(12)], *steps_to(sheet), *tries,
                       write_for(12, 0))
 
 
@@ -310,12 +311,12 @@ def refused_course_between():
     for word, wrong in REFUSED_COURSES:
         for place in (0, 1, 2):
             courses = [*FULL_COURSES[:place], wrong, *FULL_COURSES[place:3]]
-            words = ["ok"] * (place + 3) + [word] + ["ok"] * (3 - place) + [wrote(3)]
+            words = ["ok"] * (place + 3) + [word] + ["ok"] * (3 - place) + [write_word(3)]
             yield answers(words, new(), tank(FULL_TANK), site(FULL_SITE), anchors((0, 0, 0)),
                           *map(course, courses), write_for(3, place))
     # every other course is refused, and still twelve find room
     mixed = []
     for place, figures in enumerate(FULL_COURSES):
         mixed += [course(REFUSED_COURSES[place % 7][1]), course(figures)]
-    yield case(wrote(12), new(), tank(FULL_TANK), site(FULL_SITE), anchors((0, 0, 0)), *mixed,
+    yield case(write_word(12), new(), tank(FULL_TANK), site(FULL_SITE), anchors((0, 0, 0)), *mixed,
                write_for(12, 77))

@@ -4,20 +4,21 @@ of bytes.
 
 from itertools import combinations, permutations
 
-from model import example, sheet_bytes
+from model import example
 from model.fields import Anchors
 from model.filling_in import SELF_ANCHORED, sheet_of
-from model.sheet_bytes import COUNT_AT, VERSION_AT
+from model.sheet_bytes import VERSION_AT
 from vectors.byte_changes import field_damage, longer_by_one_throughout
 from vectors.records import anchors, course, forge, new, read, site, tank, write
 from vectors.scripts import (
     U32_MOST, case, holding, steps_to, subsets, with_outside, with_plate, with_slot, write_for,
-    wrote,
+    write_word, wrote,
 )
 from vectors.start_sheets import (
     ALMOST_BLANK, EXAMPLE, EXAMPLE_BYTES, FULL_ANCHORS, FULL_COURSES, FULL_SITE, FULL_TANK,
     LOW_COURSE, ONE_BYTES, TANK_ONLY, THREE_BYTES, courses_to,
 )
+from vectors.version_1 import COUNT_AT, as_bytes
 
 # --- Groups: the example tank -------------------------------------------------
 
@@ -26,7 +27,7 @@ def example_in_orders():
     """After the tank, the other five steps in each order that can be told apart."""
     _new, first, *rest = steps_to(EXAMPLE)
     for order in dict.fromkeys(permutations(rest)):     # without repeats
-        yield case(wrote(3), new(), first, *order, write_for(3, 5, 30))
+        yield case(write_word(3, 30), new(), first, *order, write_for(3, 5, 30))
 
 
 def example_tank_late():
@@ -34,20 +35,20 @@ def example_tank_late():
     _new, first, *rest = steps_to(EXAMPLE)
     for place in range(1, len(rest) + 1):
         yield case("ok", new(), *rest[:place], first)
-        yield case(wrote(3), new(), *rest[:place], first, *rest, write_for(3, 7))
+        yield case(write_word(3), new(), *rest[:place], first, *rest, write_for(3, 7))
 
 
 def example_as_bytes():
     yield case("ok", read(EXAMPLE_BYTES))
     yield case(wrote(3), read(EXAMPLE_BYTES), write(512, 0))
-    yield case(wrote(3), *steps_to(EXAMPLE), write_for(3, 255), new(), read(EXAMPLE_BYTES),
+    yield case(write_word(3, 1), *steps_to(EXAMPLE), write_for(3, 255), new(), read(EXAMPLE_BYTES),
                write_for(3, 1, 1))
     yield case("refused 31", read(EXAMPLE_BYTES), tank(example.TANK))
-    yield case(wrote(4), read(EXAMPLE_BYTES), course(example.COURSES[0]), write_for(4, 3))
+    yield case(write_word(4), read(EXAMPLE_BYTES), course(example.COURSES[0]), write_for(4, 3))
     yield case("refused 12", read(EXAMPLE_BYTES), read(EXAMPLE_BYTES + b"\0"))
-    yield case(wrote(3), read(EXAMPLE_BYTES), anchors((0, 0, 0)), write_for(3, 4))
+    yield case(write_word(3), read(EXAMPLE_BYTES), anchors((0, 0, 0)), write_for(3, 4))
     yield case("ok", read(ONE_BYTES), read(EXAMPLE_BYTES), read(THREE_BYTES))
-    yield case(wrote(3), forge(EXAMPLE), write_for(3, 9, 10))
+    yield case(write_word(3, 10), forge(EXAMPLE), write_for(3, 9, 10))
 
 
 # --- Groups: the six orders ---------------------------------------------------
@@ -144,7 +145,8 @@ def lacking(present, tank_figures, site_figures, courses):
 
 
 def write_order():
-    """Without 30, 32 comes only with 35, 36 and 38: such a sheet is the empty one."""
+    """Without 30, 32 comes only with 35, 36 and 38: such a sheet is the empty one. Since S-8 either
+    buffer is too short."""
     words = {30: "refused 30", 32: "refused 32", 35: "refused 35", 36: "refused 36",
              38: "refused 38", 19: "refused 19"}
     for present in subsets((30, 32, 35, 36, 38, 19)):
@@ -152,7 +154,7 @@ def write_order():
             continue
         sheet = lacking(present, FULL_TANK, FULL_SITE, FULL_COURSES[:2])
         lent = write_for(sheet.count, 11, more=-1 if 19 in present else 0)
-        yield case(first_of(words, present, wrote(2)), *holding(sheet), lent)
+        yield case(first_of(words, present, write_word(2)), *holding(sheet), lent)
 
 
 # --- Groups: the order of bytes -----------------------------------------------
@@ -184,7 +186,7 @@ BYTES_ORDER = (     # in document 01's order
 
 def damaged(damages):
     content = bytearray(
-        sheet_bytes.as_bytes(example.TANK, example.SITE, example.ANCHORS, ORDER_COURSES))
+        as_bytes(example.TANK, example.SITE, example.ANCHORS, ORDER_COURSES))
     for _word, damage in reversed(damages):     # a cut comes after the fields that it cuts
         damage(content)
     return read(content)

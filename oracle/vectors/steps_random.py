@@ -3,24 +3,21 @@
 from random import Random
 
 from model import sheet_bytes
-from model.fields import (
-    COURSE_FIELDS, FIELD_RANGES, HEAD_FIELDS, SITE_FIELDS, TANK_FIELDS, Anchors, Course, Site, Tank,
-    with_field,
-)
+from model.fields import COURSE_FIELDS, SITE_FIELDS, Anchors, Course, Site, Tank, with_field
 from model.filling_in import SELF_ANCHORED, left_by_a_run, sheet_of
 from model.refusals import MOST_COURSES, MOST_SHELL_HEIGHT
-from model.sheet_bytes import (
-    COUNT_AT, COURSE_BYTES, FIRST_FIELD_AT, HEAD_BYTES, VERSION, VERSION_AT, bytes_as_figures,
-    bytes_with, field_bytes, sheet_as_bytes,
-)
+from model.sheet_bytes import COURSE_BYTES, FIRST_FIELD_AT, VERSION_1, VERSION_AT, bytes_as_figures
 from model.tank_rules import BOLT_CHART
 from vectors.byte_changes import exchange, put_field, put_length, right_length
 from vectors.records import (
     ANCHORS, COURSE, SITE, STEPS, TANK, WRITE, anchors, figures_record, forge, forged,
     forged_places, new, read, tank, write,
 )
-from vectors.scripts import U32_MOST, answers, end_figures, unstated
+from vectors.scripts import U32_MOST, answers, end_figures, unstated, write_word
 from vectors.steps_forged import asked
+from vectors.version_1 import (
+    FIELDS_OF, FIELD_RANGES, HEAD_BYTES, TANK_FIELDS, bytes_with, sheet_as_bytes,
+)
 
 # --- Groups: at random, from fixed seeds --------------------------------------
 
@@ -32,7 +29,7 @@ def drawn(rng, field):
 
 
 def drawn_tank(rng):
-    stated = Tank._make(drawn(rng, field) for field in TANK_FIELDS)
+    stated = Tank(*(drawn(rng, field) for field in TANK_FIELDS))
     return stated._replace(allowance=rng.randint(0, min(250, stated.plate - 1)))
 
 
@@ -66,7 +63,7 @@ def drawn_step(rng, opcode, D):
              COURSE: drawn_course(rng, rng.choice((14_400, 6_400)))}
     entry = draws[opcode]
     if rng.random() < 0.25:
-        entry = spoiled(rng, STEPS[opcode].fields, entry)
+        entry = spoiled(rng, FIELDS_OF[STEPS[opcode].entry], entry)
     return figures_record(opcode, entry)
 
 
@@ -117,7 +114,7 @@ def random_bytes_sheets():
         content = sheet_as_bytes(sheet)
         more = [drawn_step(rng, rng.choice((SITE, ANCHORS, COURSE)), sheet.tank.D)
                 for _ in range(2)]
-        before = answers([f"wrote {len(content)}"], read(content), write(len(content), 0))
+        before = answers([write_word(sheet.count)], read(content), write(len(content), 0))
         yield *before, *more
 
 
@@ -146,15 +143,15 @@ def damage_length(rng, content):
     put_length(content, max(0, right_length(content) + rng.choice((-two, -one, -1, 1, one, two))))
 
 
-def damage_field(rng, content):
-    field = rng.choice(list(FIELD_RANGES))
-    place = rng.randrange(max(1, content[COUNT_AT]))
-    put_field(content, field, rng.choice(end_figures(field)), place)
+def damage_field(rng, content, layout=VERSION_1, fields=tuple(FIELD_RANGES)):
+    field = rng.choice(fields)
+    place = rng.randrange(max(1, content[layout.count_at()]))
+    put_field(content, field, rng.choice(end_figures(field)), place, layout)
 
 
-def damage_by_swap(rng, content):
+def damage_by_swap(rng, content, layout=VERSION_1):
     """Two fields before n change places."""
-    exchange(content, *map(field_bytes, rng.sample(HEAD_FIELDS, 2)))
+    exchange(content, *map(layout.field_bytes, rng.sample(layout.head_fields, 2)))
 
 
 def random_damage():
@@ -179,14 +176,15 @@ def random_noise():
         if rng.random() < 0.7:
             put_length(content, right_length(content))
         if rng.random() < 0.7:
-            content[VERSION_AT:FIRST_FIELD_AT] = bytes((VERSION,))
+            content[VERSION_AT:FIRST_FIELD_AT] = bytes((VERSION_1.version,))
         yield (read(content),)
 
 
 def one_figure_changed(rng, sheet):
     """Of a sheet with a tank and a site; an unstated part stays so."""
     figures = list(bytes_as_figures(forge(sheet).payload))
-    in_tank, in_site, in_anchors, in_slots = forged_places()
+    of_tank, in_site, in_anchors, in_slots = forged_places()
+    in_tank = of_tank[:len(TANK_FIELDS)]        # gravity is behind them
     after_site = range(in_slots.start - 1 if sheet.anchors is None else in_anchors.start,
                        in_slots.stop)        # the count is among them
     place = rng.choice([*in_tank, *in_site, *after_site])

@@ -7,10 +7,11 @@ from functools import cache
 from model import printing
 from model.filling_in import EXAMPLE
 from vectors import (
-    case_files, case_vectors, compression_groups, current_sheet_groups, judge_cases, judge_groups,
-    judge_later_groups, leaf_lines, marker_groups, records, steps_groups,
+    case_files, case_vectors, compression_groups, compression_later_groups, current_sheet_groups,
+    judge_cases, judge_groups, judge_later_groups, leaf_lines, leaf_liquor, marker_groups, records,
+    steps_groups, steps_later_groups,
 )
-from vectors.figure_lines import example_bytes
+from vectors.start_sheets import EXAMPLE_BYTES
 
 EXAMPLE_STDOUT = "crates/example/stdout"
 LEAVES_STDIN = "crates/test_leaves/stdin"       # lines
@@ -25,18 +26,22 @@ MOST_RECORDS = 100_000                          # that the program reads
 
 # --- Records ------------------------------------------------------------------
 
-RECORDS = {     # what a module's group names begin with
-    "": steps_groups, "judged_": judge_groups, "held_": current_sheet_groups,
-    "compression_": compression_groups, "cases_": case_vectors, "judge_": judge_later_groups,
-}
+RECORDS = (     # what a module's group names begin with, and the module
+    ("", steps_groups), ("judged_", judge_groups), ("held_", current_sheet_groups),
+    ("compression_", compression_groups), ("cases_", case_vectors.BEFORE),
+    ("judge_", judge_later_groups), ("steps_", steps_later_groups),
+    ("compression_", compression_later_groups), ("cases_s_8_", case_vectors.S_8),
+)
 
 
 def all_groups():
     """Scripts of steps and bytes, judged sheets, current sheets judged, those asked about
-    compression, the cases that people can read, and judged sheets that came later: name to
+    compression, the cases that people can read; then what came later, in that order too: name to
     records."""
-    return {prefix + name: group for prefix, module in RECORDS.items()
-            for name, group in module.group_records().items()}
+    groups = [(prefix + name, group) for prefix, module in RECORDS
+              for name, group in module.group_records().items()]
+    assert len({name for name, _group in groups}) == len(groups)
+    return dict(groups)
 
 
 @cache
@@ -46,7 +51,7 @@ def all_records():
 
 @cache
 def all_outcomes():
-    return [result for module in RECORDS.values() for result in module.all_outcomes()]
+    return [result for _prefix, module in RECORDS for result in module.all_outcomes()]
 
 
 def judged_counts():
@@ -70,16 +75,17 @@ def record_parts():
 
 @cache
 def leaf_groups():
-    """All lines of the leaves; then those of the cases that people can read."""
+    """All lines of the leaves; those of the cases that people can read; then those of S-8."""
     return {"leaves": leaf_lines.all_lines(),
             **{f"cases_{name}": lines
-               for name, lines in case_vectors.group_leaf_lines().items()}}
+               for name, lines in case_vectors.BEFORE.group_leaf_lines().items()},
+            **{f"liquor_{name}": lines for name, lines in leaf_liquor.group_lines().items()}}
 
 
 def leaf_files():
     lines = records.in_turn(leaf_groups())
     return {LEAVES_STDIN: printing.lines_as_bytes(lines),
-            LEAVES_STDOUT: printing.lines_as_bytes(map(leaf_lines.answer, lines))}
+            LEAVES_STDOUT: printing.lines_as_bytes(map(leaf_liquor.answer, lines))}
 
 
 def step_files():
@@ -89,8 +95,8 @@ def step_files():
 
 
 def marker_files():
-    stdin = example_bytes()
-    return {MARKER_STDIN: stdin, MARKER_STDOUT: printing.marked_text(stdin)}
+    """The example of document 01 as it is there, which is version 1."""
+    return {MARKER_STDIN: EXAMPLE_BYTES, MARKER_STDOUT: printing.marked_text(EXAMPLE_BYTES)}
 
 
 def sheet_files():
@@ -134,7 +140,7 @@ def line_difference(stored, made):
 
 PARTS = {   # of the files in which parts are numbered, not lines; `groups` lists them
     STEPS_STDIN: ("record", record_parts),          # line N of stdout answers record N
-    MARKER_STDIN: ("sheet", lambda: [example_bytes()]),
+    MARKER_STDIN: ("sheet", lambda: [EXAMPLE_BYTES]),
     SHEETS_STDIN: ("sheet", marker_groups.stdin_parts),
     SHEETS_STDOUT: ("the text of sheet", marker_groups.texts),
 }
@@ -175,7 +181,7 @@ def group_lines():
     yield from records.group_lines(all_groups())
     yield f"judged: {judged_counts()}"
     yield f"compression: {asked_counts()}; at random, self-anchored: {compression_groups.shares()}"
-    yield "marker: the one sheet of oracle/example.txt"
+    yield "marker: the one sheet of oracle/example.txt, as version 1"
     for line in records.group_lines(marker_groups.group_cases()):
         yield f"sheets_{line}"
     yield f"sheets: {marker_groups.sheets_summary()}; {marker_groups.texts_summary()}"

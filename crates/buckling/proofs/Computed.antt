@@ -13,9 +13,16 @@ stresses_computed : stress_of 9999999 499 999999999 12001 1 ∷ stress_of 987654
 unfolding up_of stress_exact stress_of
 stresses_computed = refl
 
--- the last two: just 0.0640, and just below it
-arguments_computed : argument_of 76799 239999 1 ∷ argument_of 1201 12001 1999 ∷ argument_of 37671 32000 433 ∷ argument_of 37670 32000 433 ∷ []
-    ≡ 13760147538 ∷ 0 ∷ 640 ∷ 639 ∷ []
+-- the last four: just 0.0640, and just below it, by the level and by the gravity
+arguments_computed :
+    argument_of 76799 1299 239999 1
+    ∷ argument_of 1201 1001 12001 1999
+    ∷ argument_of 37671 1000 32000 433
+    ∷ argument_of 37670 1000 32000 433
+    ∷ argument_of 33133 1137 32000 433
+    ∷ argument_of 33133 1136 32000 433
+    ∷ []
+    ≡ 17874431652 ∷ 0 ∷ 640 ∷ 639 ∷ 640 ∷ 639 ∷ []
 unfolding argument_exact argument_of
 arguments_computed = refl
 

@@ -1,5 +1,5 @@
--- The pressure-stabilizing buckling coefficient, ΔCc: source 003, Eq 13-50, and its chart: document 02, S-6. A power of 0.84 is 21 / 25, so the
--- equation is stated by 25th powers.
+-- The pressure-stabilizing buckling coefficient, ΔCc: source 003, Eq 13-50, and its chart: document 02, S-6, and S-8 (specific gravity G,
+-- in thousandths). A power of 0.84 is 21 / 25, so the equation is stated by 25th powers.
 use Rattle.std.specs.Prelude.{Bool, ℕ, min}
 use Rattle.exact.specs.Quotient.{Ratio, whole, down_of}
 use Rattle.exact.specs.Fraction.{◌over◌, times, divided_by, squared, power, ◌≤ʳ◌, at_most}
@@ -10,16 +10,16 @@ use Rattle.buckling.specs.Units.{feet, plate_inches, radius}
 abbrev pub modulus : Ratio
 modulus = whole 29000000
 
--- P, in psi: "water weighs 0.433 psi per foot of H"
-abbrev pub pressure : ℕ → Ratio
-pressure H = times (433 over 1000) (feet H)
+-- P, in psi: "water weighs 0.433 psi per foot of H", and "Water pressure in the compression question is multiplied too", by the gravity
+abbrev pub pressure : ℕ → ℕ → Ratio
+pressure H G = times (times (433 over 1000) (feet H)) (G over 1000)
 
 -- the equation's argument, (P / E) (R / t)², exact and, in ten-thousandths, "rounded down"
-unfoldable pub argument_exact : ℕ → ℕ → ℕ → Ratio
-argument_exact H D t = times (divided_by (pressure H) modulus) (squared (divided_by (radius D) (plate_inches t)))
+unfoldable pub argument_exact : ℕ → ℕ → ℕ → ℕ → Ratio
+argument_exact H G D t = times (divided_by (pressure H G) modulus) (squared (divided_by (radius D) (plate_inches t)))
 
-unfoldable pub argument_of : ℕ → ℕ → ℕ → ℕ
-argument_of H D t = let f = times (whole 10000) (argument_exact H D t) in down_of f.num f.den
+unfoldable pub argument_of : ℕ → ℕ → ℕ → ℕ → ℕ
+argument_of H G D t = let f = times (whole 10000) (argument_exact H G D t) in down_of f.num f.den
 
 -- 0.72 x^0.84, to the 25th
 abbrev pub printed_power : Ratio → Ratio

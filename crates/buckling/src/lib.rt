@@ -1,5 +1,5 @@
-// Local buckling of the shell under an earthquake, by S-6 of document 02: the compression stress, the allowed one,
-// and the coefficient by which water pressure helps; a function to a figure. As in `rules`, a function asks for
+// Local buckling of the shell under an earthquake, by S-6 and S-8 of document 02: the compression stress, the allowed one,
+// and the coefficient by which the pressure inside helps; a function to a figure. As in `rules`, a function asks for
 // ranges and bounds; nothing here knows of sheets.
 #![tactic(auto)]
 

@@ -10,15 +10,18 @@ use crate::shell::Shell;
 // The last place of the chart.
 const LAST: u64 = 640;
 
-// The argument, (P / E) (R / t)², in ten-thousandths, rounded down.
-#[tactic(auto, using(crate::proofs::CoefficientLaws::argument_reduced))]
-pub fn argument(level: u32, shell: Shell) -> u64
-    requires { In 2 level }
-    ensures { result ≡ argument_of level shell.diameter shell.net }
+// The argument, (P / E) (R / t)², in ten-thousandths, rounded down. The numerator has 72 bits; the quotient fits 64, and so is cast.
+#[tactic(auto, using(crate::proofs::CoefficientLaws::argument_laws))]
+pub fn argument(level: u32, gravity: u32, shell: Shell) -> u64
+    requires level_in { In 2 level }
+    requires gravity_in { In 20 gravity }
+    ensures { result ≡ argument_of level gravity shell.diameter shell.net }
 {
     let d = u64::from(shell.diameter);
     let t = u64::from(shell.net);
-    exact::down(433 * u64::from(level) * d * d, 139200000 * t * t)
+    let pressure = 433 * u64::from(level) * u64::from(gravity);
+    let den = u128::from(139200000000 * t * t);
+    exact::down(exact::product(pressure, d * d), den) as u64
 }
 
 // The coefficient for an argument, both as above; past the chart it is the last entry, so the place is

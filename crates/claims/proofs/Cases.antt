@@ -1,4 +1,4 @@
--- The cases that document 01 marks ◆ and its case of 37, and those of S-1, S-3, S-5 and S-7 of document 02, computed by the checker.
+-- The cases that document 01 marks ◆ and its case of 37, and those of S-1, S-3, S-5, S-7 and S-8 of document 02, computed by the checker.
 -- Assumes nothing.
 use mathlib.Core.Path.{◌≡◌, refl}
 use mathlib.Core.List.{map}
@@ -8,7 +8,7 @@ use Rattle.fields.specs.Bolt.{in_chart, stress_area}
 use Rattle.fields.specs.Range.{within, between}
 use Rattle.fields.specs.Refusal.{plain}
 use Rattle.stability.specs.Anchors.{reduced_weight, pull_exact, pull_of, larger_pull, spacing_verdict, strength_verdict, wind_verdict}
-use Rattle.stability.specs.Earthquake.{shell_exact, shell_weight, root_most, bottom_root, cap_exact, bottom_cap, bottom_weight, resistance_of, uplift_of, quake_verdict}
+use Rattle.stability.specs.Earthquake.{shell_exact, shell_weight, root_yield, root_most, bottom_root, cap_exact, bottom_cap, bottom_weight, resistance_of, uplift_of, quake_verdict}
 use Rattle.rules.specs.Hoop.{head_of, design_head, hoop_exact, hoop_need, plate_floor, required_plate, course_verdict}
 use Rattle.rules.specs.Method.{is_method, method_of}
 use Rattle.rules.specs.Verdict.{verdict_of}
@@ -23,7 +23,7 @@ use Rattle.claims.specs.Judging.{judged}
 use Rattle.claims.specs.Cases.{example_above, example_unstated, proved_cases, outcome, expected}
 
 pub proved_cases_lem : map outcome proved_cases ≡ map expected proved_cases
-unfolding up_ℤ up_to root_of in_chart stress_area within between reduced_weight pull_exact pull_of larger_pull spacing_verdict strength_verdict wind_verdict shell_exact shell_weight root_most bottom_root cap_exact bottom_cap bottom_weight resistance_of uplift_of quake_verdict head_of design_head hoop_exact hoop_need plate_floor required_plate course_verdict is_method method_of verdict_of pressure_of moment_of clear bad_anchors tank_flaws site_flaws anchor_flaws course_flaws courses_clear courses_blank slots_reachable reachable line_of resistance_on self_checks anchor_checks standing_of courses_hold word_of report_of judged
+unfolding up_ℤ up_to root_of in_chart stress_area within between reduced_weight pull_exact pull_of larger_pull spacing_verdict strength_verdict wind_verdict shell_exact shell_weight root_yield root_most bottom_root cap_exact bottom_cap bottom_weight resistance_of uplift_of quake_verdict head_of design_head hoop_exact hoop_need plate_floor required_plate course_verdict is_method method_of verdict_of pressure_of moment_of clear bad_anchors tank_flaws site_flaws anchor_flaws course_flaws courses_clear courses_blank slots_reachable reachable line_of resistance_on self_checks anchor_checks standing_of courses_hold word_of report_of judged
 proved_cases_lem = refl
 
 -- anchors left out are asked about

@@ -19,7 +19,7 @@ use Rattle.rules.specs.Wind.{pressure_exact, moment_exact, moment_margin}
 use Rattle.rules.specs.declared.method.Method.{Method}
 use Rattle.rules.specs.declared.method.Method.TheVariants.{D100, Api650}
 use Rattle.stability.specs.Anchors.{reduced_weight, pull_margin}
-use Rattle.stability.specs.Earthquake.{Carried, shell_exact, cap_exact, root_most, Resists, resistance_margin}
+use Rattle.stability.specs.Earthquake.{Carried, shell_exact, cap_exact, root_yield, root_most, Resists, resistance_margin}
 use Rattle.entries.specs.Sheet.{height_of}
 use Rattle.entries.specs.declared.sheet.Tank.{Tank}
 use Rattle.entries.specs.declared.sheet.Site.{Site}
@@ -27,13 +27,13 @@ use Rattle.entries.specs.declared.sheet.Anchors.{Anchors}
 use Rattle.entries.specs.declared.sheet.Course.{Course}
 use Rattle.sheet.specs.Complete.{entries_of, courses_of}
 use Rattle.entries.specs.declared.complete.Entries.{Entries}
-use Rattle.claims.specs.Figures.{need_exact_on, bottom_plate, ResistsOn, wind_weight, quake_weight}
+use Rattle.claims.specs.Figures.{need_exact_on, bottom_plate, yield_on, ResistsOn, wind_weight, quake_weight}
 use Rattle.claims.specs.Meets.{Margins, no_margins, plate_with, CourseMeets, CoursesMeet, moment_with, SelfMeets, AnchorsMeet, MeetsWith, margins_of}
 use Rattle.claims.specs.Cases.{mil_below}
 use Rattle.claims.specs.Pinned.{◌over◌, pinned_on, sheets, expected_figures, Edge, edges, EachEdge, with_plate, HalfTooLittle}
 
 pub pinned : map pinned_on sheets ≡ expected_figures
-unfolding shell_exact cap_exact root_most resistance_margin head_of design_head hoop_exact plate_margin pressure_exact moment_exact moment_margin reduced_weight pull_margin
+unfolding shell_exact cap_exact root_yield root_most resistance_margin head_of design_head hoop_exact plate_margin pressure_exact moment_exact moment_margin reduced_weight pull_margin
 pinned = refl
 
 -- ---- a test of the exact rules: met where it passes, and it passes where they are met
@@ -117,7 +117,7 @@ module _ (m : Margins) (t : Tank) (x : Site) (Hs : ℕ) where
 
   abbrev quake_test : Bool
   quake_test =
-      carried_test (144000000 * asked.num * wt.den) (wt.num * (asked.den * (t.diameter * t.diameter))) (asked.den * (t.diameter * t.diameter) * wt.den) (root_most (bottom_plate t) t.fy t.level) (cap_exact t.level t.diameter)
+      carried_test (144000000 * asked.num * wt.den) (wt.num * (asked.den * (t.diameter * t.diameter))) (asked.den * (t.diameter * t.diameter) * wt.den) (root_most (bottom_plate t) (yield_on t) t.level) (cap_exact t.level t.diameter t.gravity)
 
   self_met : T (wind_test && quake_test) → SelfMeets m t x Hs
   unfolding ResistsOn Resists
@@ -213,14 +213,14 @@ module _ (method : Method) where
       ((test_meets method (margins_of (entries_of d.meets)) (entries_of d.meets) b.0, λ m. not_both outside b.1 (meets_test_lem method no_margins (entries_of d.breaks) m)), each_edge ds a.1)
 
 pub edges_hold : (method : Method) → EachEdge method (edges method)
-unfolding shell_exact cap_exact root_most resistance_margin head_of design_head hoop_exact plate_margin plate_floor pressure_exact moment_exact moment_margin stress_area reduced_weight pull_margin
+unfolding shell_exact cap_exact root_yield root_most resistance_margin head_of design_head hoop_exact plate_margin plate_floor pressure_exact moment_exact moment_margin stress_area reduced_weight pull_margin
 edges_hold D100 = each_edge D100 (edges D100) tt
 edges_hold Api650 = each_edge Api650 (edges Api650) tt
 
 -- ---- the plate's margin is not to be halved
 
 pub half_too_little : HalfTooLittle D100 mil_below
-unfolding shell_exact cap_exact root_most resistance_margin head_of design_head hoop_exact plate_margin plate_floor pressure_exact moment_exact moment_margin stress_area reduced_weight pull_margin
+unfolding shell_exact cap_exact root_yield root_most resistance_margin head_of design_head hoop_exact plate_margin plate_floor pressure_exact moment_exact moment_margin stress_area reduced_weight pull_margin
 half_too_little =
     let e = entries_of mil_below in
     record { breaks = meets_test_lem D100 (margins_of e) e; meets = test_meets D100 (with_plate (5 over 2) (margins_of e)) e tt }

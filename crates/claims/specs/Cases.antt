@@ -1,6 +1,7 @@
 -- The cases that document 01 marks ◆: "The example tank" with the figures changed that the case names, and what its
--- report then says, its earthquake pull by document 02, S-5, and its needs by S-7; beside them the case of S-3, and a plate a mil below its
--- need (S-7). The uses of either way of standing. And the same tank with its anchors left out (S-1), and with water above its shell.
+-- report then says, its earthquake pull by document 02, S-5, and its needs by S-7; beside them the case of S-3, a plate a mil below its
+-- need (S-7), and tanks with liquor in them (S-8). The uses of either way of standing. And the same tank with its anchors left out (S-1),
+-- and with water above its shell.
 use Rattle.std.specs.Prelude.{List, [], ◌∷◌, ℕ, ◌-◌, ℤ, pos, neg_ℤ, get_or, replicate, Some, None, Float}
 use Rattle.fields.specs.Refusal.{plain}
 use Rattle.fields.specs.declared.refusal.Code.{Code}
@@ -22,17 +23,21 @@ use Rattle.reports.specs.declared.report.Standing.TheVariants.{SelfAnchored, Anc
 use Rattle.reports.specs.declared.report.Report.{Report}
 
 -- "D 14,400, H 28,800, W 11,000, bottom 250, 0, 36,000; V 105, Kz 109, I 115, Av 27, Ms 30,000; N 6, B 14,800, d 8; three courses 9,600,
--- 250, 0, 15,000, 85", with a V (v, as V is a word of the language), an Ms and anchors of one's own
-abbrev pub example_with : ℕ → ℕ → Anchors → Sheet
-example_with v Ms a =
+-- 250, 0, 15,000, 85", with a gravity, a V (v, as V is a word of the language), an Ms and anchors of one's own
+abbrev pub example_of : ℕ → ℕ → ℕ → Anchors → Sheet
+example_of G v Ms a =
     let c : Course = record { width = 9600; plate = 250; allowance = 0; stress = 15000; efficiency = 85 } in
     record {
-      tank = Some (record { diameter = 14400; level = 28800; weight = 11000; plate = 250; allowance = 0; fy = 36000 });
+      tank = Some (record { diameter = 14400; level = 28800; weight = 11000; plate = 250; allowance = 0; fy = 36000; gravity = G });
       site = Some (record { speed = v; exposure = 109; importance = 115; vertical = 27; moment = Ms });
       anchors = Some a;
       courses = c ∷ c ∷ c ∷ replicate 9 blank_course;
       count = 3;
     }
+
+-- with water in it
+abbrev pub example_with : ℕ → ℕ → Anchors → Sheet
+example_with = example_of 1000
 
 abbrev pub six_on : ℕ → Anchors
 six_on B = record { number = 6; circle = B; size = 8 }
@@ -49,7 +54,7 @@ example_unstated =
 abbrev pub example_above : Sheet
 example_above =
     record {
-      tank = Some (record { diameter = 14400; level = 28801; weight = 11000; plate = 250; allowance = 0; fy = 36000 });
+      tank = Some (record { diameter = 14400; level = 28801; weight = 11000; plate = 250; allowance = 0; fy = 36000; gravity = 1000 });
       site = example.site;
       anchors = example.anchors;
       courses = example.courses;
@@ -69,10 +74,26 @@ abbrev pub mil_below : Sheet
 mil_below =
     let course : ℕ → Course = λ t. record { width = 14400; plate = t; allowance = 0; stress = 10000; efficiency = 50 } in
     record {
-      tank = Some (record { diameter = 14400; level = 38470; weight = 100000; plate = 250; allowance = 0; fy = 36000 });
+      tank = Some (record { diameter = 14400; level = 38470; weight = 100000; plate = 250; allowance = 0; fy = 36000; gravity = 1000 });
       site = Some (record { speed = 60; exposure = 100; importance = 100; vertical = 0; moment = 0 });
       anchors = Some no_anchors;
       courses = course 204 ∷ course 188 ∷ course 188 ∷ replicate 9 blank_course;
+      count = 3;
+    }
+
+-- Beside document 01's example, a larger tank with liquor of 1.137 in it: allowances, another plate to each course, a wind below the least
+-- pressure; with a weight, a bottom allowance, a plate of the lowest course, an Ms and anchors of one's own.
+abbrev pub second_with : ℕ → ℕ → ℕ → ℕ → Anchors → Sheet
+second_with W c t Ms a =
+    record {
+      tank = Some (record { diameter = 60001; level = 30000; weight = W; plate = 300; allowance = c; fy = 40001; gravity = 1137 });
+      site = Some (record { speed = 90; exposure = 100; importance = 100; vertical = 250; moment = Ms });
+      anchors = Some a;
+      courses =
+          record { width = 14400; plate = t; allowance = 20; stress = 20000; efficiency = 70 }
+          ∷ record { width = 14400; plate = 260; allowance = 10; stress = 18000; efficiency = 85 }
+          ∷ record { width = 3600; plate = 255; allowance = 5; stress = 15000; efficiency = 100 }
+          ∷ replicate 9 blank_course;
       count = 3;
     }
 
@@ -168,6 +189,22 @@ proved_cases =
     ∷ case example second_use (use_is (use_of 2133000 12089700))
     ∷ case (example_with 105 30000 no_anchors) first_use (use_is (use_of 264135600 158400000))
     ∷ case (example_with 105 30000 no_anchors) second_use (use_is (use_of 30000000 145754840))
+    -- S-8: with liquor of gravity 1.3 the exact needs 58.7, 39.2 and 19.6 are 76.3, 50.9 and 25.4, and with 1.137 they are 66.8, 44.5 and 22.3;
+    -- T, of a cap of 47,923 in place of 36,864, is 110,571
+    ∷ case (example_of 1300 105 30000 (six_on 14800)) (need_of 1) (number (pos 80))
+    ∷ case (example_of 1300 105 30000 (six_on 14800)) (need_of 2) (number (pos 55))
+    ∷ case (example_of 1300 105 30000 (six_on 14800)) (need_of 3) (number (pos 30))
+    ∷ case (example_of 1137 105 30000 (six_on 14800)) (need_of 1) (number (pos 70))
+    ∷ case_by 2 (example_of 1137 105 30000 (six_on 14800)) (need_of 1) (number (pos 65))
+    ∷ case (example_of 1300 105 86798 no_anchors) lift (word none_word)
+    ∷ case (example_of 1300 105 86799 no_anchors) lift (word lift_word)
+    ∷ case (example_of 1300 105 170279 no_anchors) lift (word lift_word)
+    ∷ case (example_of 1300 105 170280 no_anchors) lift (word over_word)
+    -- a bottom plate so thin that the root limits T, 31,807,410: with the yield of 40,001 psi in liquor of 1.137, 45,481
+    ∷ case (second_with 2000000 150 300 24968816 no_anchors) lift (word none_word)
+    ∷ case (second_with 2000000 150 300 24968817 no_anchors) lift (word lift_word)
+    ∷ case (second_with 2000000 150 300 48983411 no_anchors) lift (word lift_word)
+    ∷ case (second_with 2000000 150 300 48983412 no_anchors) lift (word over_word)
     ∷ case mil_below (need_of 1) (number (pos 205))
     ∷ case mil_below tank_called (word short_word)
     ∷ []

@@ -1,6 +1,6 @@
--- Demand 3 in fractions: document 01, the end of "The rules"; document 02, S-3, S-5 and S-7. The exact rules take the fields only, nothing
--- of the report, and round nothing; one text serves every margin and either method for hoop need. Fractions are compared as whole numbers,
--- their divisors multiplied out.
+-- Demand 3 in fractions: document 01, the end of "The rules"; document 02, S-3, S-5, S-7 and S-8. The exact rules take the fields only,
+-- nothing of the report, and round nothing but the yield in wL's root ("the yield alone being rounded"); one text serves every margin and
+-- either method for hoop need. Fractions are compared as whole numbers, their divisors multiplied out.
 use Rattle.std.specs.Prelude.{◌≡◌, List, [], ◌∷◌, ◌⊎◌, ℕ, ◌+◌, ◌*◌, ◌≤◌, ◌<◌}
 use Rattle.lists.specs.Ascii.{ascii}
 use Rattle.exact.specs.Quotient.{Ratio, whole, plus}
@@ -49,7 +49,7 @@ abbrev pub plate_with : Margins → Ratio → Course → Ratio
 plate_with margins need course = plus (plus need margins.plate) (whole course.allowance)
 
 module _ (margins : Margins) (tank : Tank) where
-  -- "Each course: t at least the floor, and at least 13 × h × D / (72 × s × E) + m + c", that need being given
+  -- "Each course: t at least the floor, and at least 13 × h × D / (72 × s × E) + m + c", that need being given, with the gravity
   pub record CourseMeets (need : Ratio) (course : Course) : Type 0 where
     pub floor : plate_floor tank.diameter ≤ course.plate
     pub hoop : (plate_with margins need course).num ≤ course.plate * (plate_with margins need course).den

@@ -1,4 +1,4 @@
--- The report on a sheet with tank, site and courses, by a method for hoop need: document 01, "The rules"; document 02, S-3, S-5 and S-7.
+-- The report on a sheet with tank, site and courses, by a method for hoop need: document 01, "The rules"; document 02, S-3, S-5, S-7 and S-8.
 use Rattle.std.specs.Prelude.{◌≡◌, Bool, cond, ◌&&◌, List, [], ◌∷◌, ℕ, ◌+◌, eqb, length}
 use Rattle.fields.specs.Bolt.{stress_area}
 use Rattle.stability.specs.Anchors.{larger_pull, spacing_verdict, strength_verdict, wind_verdict}

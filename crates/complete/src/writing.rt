@@ -1,4 +1,4 @@
-// A sheet into bytes (document 01, "Filling in" and "Order"; document 02, S-1), in a buffer that the caller lends.
+// A sheet into bytes (document 01, "Filling in" and "Order"; document 02, S-1 and S-8), in a buffer that the caller lends.
 // Where it is refused, no byte of the buffer is touched.
 ghost use Rattle.std.specs.Prelude.{◌≡◌, length};
 ghost use Rattle.sheet.specs.Complete.{Valid};
@@ -9,7 +9,7 @@ use crate::status;
 use entries::{Entries, Sheet};
 use fields::Refusal;
 
-// Fills the first 60 + 20 × n bytes, which are read as the same sheet, and gives that number. Refused: 30,
+// Fills the first 64 + 20 × n bytes, those of version 2, which are read as the same sheet, and gives that number. Refused: 30,
 // 32, 35, 36, 38, 19.
 pub fn write(s: Sheet, out: &mut [u8]) -> Result<usize, Refusal>
     ensures value { result ≡ (written s out.old).answer }
@@ -27,12 +27,12 @@ fn write_entries(e: Entries, out: &mut [u8]) -> Result<usize, Refusal>
     ensures buffer { out.new ≡ (written_entries e out.old).buffer }
 {
     let n = e.count;
-    let size = 60 + 20 * n;
+    let size = 64 + 20 * n;
     if out.len() < size {
         return Err(Refusal::BufferTooShort);
     }
     layout::writing::put_prefix(out, e.tank, n);
-    layout::writing::put_tail_head(out, 27, e.site, e.anchors, n);
-    layout::writing::put_courses(out, 60, &e.courses[..n]);
+    layout::writing::put_tail_head(out, 31, e.site, e.anchors, n);
+    layout::writing::put_courses(out, 64, &e.courses[..n]);
     Ok(size)
 }

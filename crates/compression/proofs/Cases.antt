@@ -1,4 +1,4 @@
--- The cases of S-6, computed by the checker.
+-- The cases of S-6 and S-8, computed by the checker.
 -- Assumes nothing.
 use mathlib.Core.Path.{◌≡◌, refl}
 use mathlib.Core.List.{map}
@@ -7,7 +7,7 @@ use Rattle.exact.specs.Root.{root_of}
 use Rattle.fields.specs.Bolt.{in_chart}
 use Rattle.fields.specs.Range.{within, between}
 use Rattle.fields.specs.Order.{clear}
-use Rattle.stability.specs.Earthquake.{shell_exact, shell_weight, root_most, bottom_root, cap_exact, bottom_cap, bottom_weight, resistance_of, uplift_of}
+use Rattle.stability.specs.Earthquake.{shell_exact, shell_weight, root_yield, root_most, bottom_root, cap_exact, bottom_cap, bottom_weight, resistance_of, uplift_of}
 use Rattle.rules.specs.Method.{is_method}
 use Rattle.buckling.specs.Stress.{stress_exact, stress_of}
 use Rattle.buckling.specs.Coefficient.{argument_exact, argument_of, entry_at, coefficient_of}
@@ -20,5 +20,5 @@ use Rattle.compression.specs.Compression.{coefficient_on, stresses_of, shell_com
 use Rattle.compression.specs.Cases.{proved_cases, outcome, expected}
 
 pub proved_cases_lem : map outcome proved_cases ≡ map expected proved_cases
-unfolding up_of root_of in_chart within between clear shell_exact shell_weight root_most bottom_root cap_exact bottom_cap bottom_weight resistance_of uplift_of is_method stress_exact stress_of argument_exact argument_of entry_at coefficient_of local_buckling allowed_exact allowed_of bad_anchors tank_flaws site_flaws anchor_flaws course_flaws courses_clear courses_blank slots_reachable reachable resistance_on coefficient_on stresses_of shell_compression
+unfolding up_of root_of in_chart within between clear shell_exact shell_weight root_yield root_most bottom_root cap_exact bottom_cap bottom_weight resistance_of uplift_of is_method stress_exact stress_of argument_exact argument_of entry_at coefficient_of local_buckling allowed_exact allowed_of bad_anchors tank_flaws site_flaws anchor_flaws course_flaws courses_clear courses_blank slots_reachable reachable resistance_on coefficient_on stresses_of shell_compression
 proved_cases_lem = refl

@@ -5,14 +5,14 @@ use mathlib.Core.Path.{◌≡◌, refl, sym, ap, ◌∙◌, subst}
 use mathlib.Core.Bool.{Bool, true, false, cond, ◌&&◌, true≢false}
 use mathlib.Core.List.{[], ◌∷◌, ◌++◌}
 use mathlib.Core.Logic.{◌↔◌}
-use Prim.Native.Nat.{ℕ, ◌<◌}
+use Prim.Native.Nat.{ℕ, ◌*◌, ◌<◌}
 use native.Mathlib.Omega.{arith}
 use lib.Dec.{T, eqb}
 use borrow.Author.Tests.{eqb-false, eqb-true, ne_eqb}
 use lib.Seq.{length-take-le, get_or-take}
 use lib.ListN.{length, get_or, take}
 use Rattle.lists.proofs.EachLaws.{each_at}
-use Rattle.exact.specs.Quotient.{Ratio}
+use Rattle.exact.specs.Quotient.{Ratio, down_of}
 use Rattle.exact.specs.Fraction.{◌≤ʳ◌}
 use Rattle.std.specs.Result.{result_and}
 use Rattle.fields.specs.Order.{Answer, first_of, at, First, clear, codes, answer_code, reply_unless}
@@ -31,7 +31,7 @@ use Rattle.buckling.specs.Coefficient.{argument_of, hundred_thousandths, coeffic
 use Rattle.buckling.specs.Allowed.{allowed_of}
 use Rattle.buckling.specs.Stress.{stress_of}
 use Rattle.buckling.proofs.StressLaws.{stress_rounded, stress_only}
-use Rattle.buckling.proofs.CoefficientLaws.{coefficient_safe}
+use Rattle.buckling.proofs.CoefficientLaws.{water_argument, coefficient_safe}
 use Rattle.buckling.proofs.AllowedLaws.{allowed_rounded, allowed_only, allowed_below}
 use Rattle.entries.specs.Sheet.{blank_course}
 use Rattle.flaws.specs.Flaws.{course_flaws}
@@ -77,13 +77,19 @@ module _ (e : Entries) (v : Valid e) where
 
 module _ (tank : Tank) (anchors : Anchors) (t : ℕ) where
   -- by the test that the code makes
-  pub self_coefficient : anchors.number ≡ 0 → coefficient_on tank anchors t ≡ coefficient_of (argument_of tank.level tank.diameter t)
+  pub self_coefficient : anchors.number ≡ 0 → coefficient_on tank anchors t ≡ coefficient_of (argument_of tank.level tank.gravity tank.diameter t)
   unfolding coefficient_on
   self_coefficient e = rw e refl
 
   pub anchored_coefficient : (anchors.number ≡ 0 → ⊥) → coefficient_on tank anchors t ≡ 0
   unfolding coefficient_on
   anchored_coefficient f = rw (ne_eqb anchors.number 0 f) refl
+
+-- of water (gravity 1,000) the coefficient is S-6's
+pub coefficient_of_water : (tank : Tank) (anchors : Anchors) (t : ℕ) → tank.gravity ≡ 1000 → 0 < t
+    → coefficient_on tank anchors t ≡ cond (self_anchored anchors) (coefficient_of (down_of (433 * tank.level * tank.diameter * tank.diameter) (139200000 * t * t))) 0
+unfolding coefficient_on
+coefficient_of_water tank anchors t g p = rw (g, water_argument tank.level tank.diameter t p)
 
 module _ (e : Entries) (v₀ : Valid e) where
   diameter_above : 0 < e.tank.diameter
@@ -97,7 +103,7 @@ module _ (e : Entries) (v₀ : Valid e) where
       go true q =
           let z = eqb-true e.anchors.number 0 q in
           rw (self_coefficient e.tank e.anchors (net_plate e) z)
-          (coefficient_safe e.tank.level e.tank.diameter (net_plate e) (net_in e v₀).0 c (p z).1)
+          (coefficient_safe e.tank.level e.tank.gravity e.tank.diameter (net_plate e) (net_in e v₀).0 c (p z).1)
       go false q = rw (anchored_coefficient e.tank e.anchors (net_plate e) (eqb-false e.anchors.number 0 q)) (omega arith)
 
   pub stresses_justified : StressesJustified e (stresses_of e)

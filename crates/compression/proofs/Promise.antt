@@ -24,7 +24,7 @@ abbrev at_limit : Anchors → Entries
 at_limit a =
     let c : Course = record { width = 9600; plate = 500; allowance = 67; stress = 15000; efficiency = 85 } in
     record {
-      tank = record { diameter = 32000; level = 37671; weight = 11000; plate = 250; allowance = 0; fy = 36000 };
+      tank = record { diameter = 32000; level = 37671; weight = 11000; plate = 250; allowance = 0; fy = 36000; gravity = 1000 };
       site = record { speed = 105; exposure = 109; importance = 115; vertical = 27; moment = 0 };
       anchors = a;
       courses = c ∷ c ∷ c ∷ c ∷ replicate 8 blank_course;

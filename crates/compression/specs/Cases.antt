@@ -1,12 +1,12 @@
--- "The example tank" of document 01 asked about its shell compression, anchored and with N = 0, by either method; where its edge just lifts; and
--- a shell that does not hold.
+-- "The example tank" of document 01 asked about its shell compression, anchored and with N = 0, by either method, and with
+-- liquor in it (S-8); where its edge just lifts; and a shell that does not hold.
 use Rattle.std.specs.Prelude.{Bool, true, false, List, [], ◌∷◌, ℕ, replicate, Some}
 use Rattle.fields.specs.Refusal.{plain}
 use Rattle.entries.specs.Sheet.{blank_course, no_anchors}
 use Rattle.entries.specs.declared.sheet.Anchors.{Anchors}
 use Rattle.entries.specs.declared.sheet.Course.{Course}
 use Rattle.entries.specs.declared.sheet.Sheet.{Sheet}
-use Rattle.claims.specs.Cases.{example, example_with, six_on}
+use Rattle.claims.specs.Cases.{example, example_of, example_with, six_on}
 use Rattle.compression.specs.Compression.{CompressionCode, no_stresses, shell_compression, compression_code}
 
 pub record Case : Type 0 where
@@ -30,7 +30,7 @@ thin_with H c Ms a =
     let bottom : Course = record { width = 9601; plate = 188; allowance = c; stress = 15003; efficiency = 85 } in
     let top : Course = record { width = 9607; plate = 250; allowance = 17; stress = 15003; efficiency = 85 } in
     record {
-      tank = Some (record { diameter = 14407; level = H; weight = 11003; plate = 253; allowance = 61; fy = 36001 });
+      tank = Some (record { diameter = 14407; level = H; weight = 11003; plate = 253; allowance = 61; fy = 36001; gravity = 1000 });
       site = Some (record { speed = 105; exposure = 109; importance = 115; vertical = 271; moment = Ms });
       anchors = Some a;
       courses = bottom ∷ top ∷ replicate 10 blank_course;
@@ -46,6 +46,10 @@ proved_cases =
     ∷ case 2 example (given 187 11113 true)
     ∷ case 1 (example_with 105 30000 no_anchors) (given 187 13632 true)
     ∷ case 2 (example_with 105 30000 no_anchors) (given 187 13632 true)
+    -- S-8: heavier liquor helps a self-anchored tank more, and an anchored one not at all
+    ∷ case 1 (example_of 1300 105 30000 no_anchors) (given 187 14253 true)
+    ∷ case 2 (example_of 1137 105 30000 no_anchors) (given 187 13914 true)
+    ∷ case 1 (example_of 1300 105 30000 (six_on 14800)) (given 187 11113 true)
     ∷ case 3 (example_with 105 30000 no_anchors) (refused 42)
     -- document 01's lift is "none" up to 74,297, and "over" from 145,755 on
     ∷ case 1 (example_with 105 74297 no_anchors) (given 318 13632 true)

@@ -1,4 +1,4 @@
--- Shell compression at the bottom course: document 02, S-6. A sheet and a method's number n; the reply is the stress, the allowed stress and
+-- Shell compression at the bottom course: document 02, S-6 and S-8. A sheet and a method's number n; the reply is the stress, the allowed stress and
 -- whether it holds, or one refusal.
 use Rattle.fields.specs.declared.refusal.Refusal.{Refusal}
 use Rattle.std.specs.Prelude.{◌≡◌, Bool, true, false, cond, ◌&&◌, List, [], ◌∷◌, ◌++◌, ℕ, ◌-◌, leb, eqb, get_or, Result, Ok, Err}
@@ -55,7 +55,7 @@ compression_order n s = judge_order n s ++ shell_uplift (entries_of s) ∷ []
 -- the coefficient of pressure, in hundred-thousandths: "Anchored tanks get no pressure help"
 unfoldable pub coefficient_on : Tank → Anchors → ℕ → ℕ
 coefficient_on tank anchors t =
-    cond (self_anchored anchors) (coefficient_of (argument_of tank.level tank.diameter t)) 0
+    cond (self_anchored anchors) (coefficient_of (argument_of tank.level tank.gravity tank.diameter t)) 0
 
 -- the stress and the allowed one, exact; the latter for any coefficient of pressure
 abbrev pub stress_exact_on : Entries → Ratio
@@ -110,8 +110,8 @@ shell_compression_code n s =
 abbrev pub PrintedHelp : Entries → Ratio → Type 0
 PrintedHelp e c =
     e.anchors.number ≡ 0
-    → (argument_exact e.tank.level e.tank.diameter (net_plate e) ≤ʳ (last_place over 10000))
-    × AtLeastPrinted (argument_exact e.tank.level e.tank.diameter (net_plate e)) c
+    → (argument_exact e.tank.level e.tank.gravity e.tank.diameter (net_plate e) ≤ʳ (last_place over 10000))
+    × AtLeastPrinted (argument_exact e.tank.level e.tank.gravity e.tank.diameter (net_plate e)) c
 
 -- Of a reply's figures: the stress is at least the exact one and less than 1 psi above it; the allowed one at most the exact one, with the
 -- chart's coefficient, and less than 1 psi below it; "The allowed stress is never above the printed equations up to 0.0640".

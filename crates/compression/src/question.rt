@@ -1,4 +1,4 @@
-// Shell compression at the bottom course (document 02, S-6).
+// Shell compression at the bottom course (document 02, S-6 and S-8).
 ghost use Rattle.std.specs.Prelude.{◌≡◌, ◌≤◌, cond};
 ghost use Rattle.fields.specs.Range.{In};
 ghost use Rattle.sheet.specs.Complete.{entries_of, Valid};
@@ -7,7 +7,7 @@ ghost use Rattle.buckling.specs.Coefficient.{argument_of, coefficient_of};
 ghost use Rattle.compression.specs.Compression.{self_anchored, lifts, uplifted, stresses_of, unless_uplifted, shell_compression, compression_code, shell_compression_code, ReplyJustified};
 
 use buckling::{Shell, pressure, stress};
-use entries::{Anchors, Entries, Sheet};
+use entries::{Anchors, Entries, Sheet, Tank};
 use fields::Refusal;
 use judge::judging;
 use reports::report::Standing;
@@ -73,7 +73,7 @@ fn bottom_stresses(e: Entries) -> Stresses
         diameter: tank.diameter,
         net: bottom.plate - bottom.allowance,
     };
-    let coefficient = coefficient(tank.level, e.anchors, shell);
+    let coefficient = coefficient(tank, e.anchors, shell);
     let stress = stress::compression(tank.weight, site.vertical, site.moment, shell);
     let allowed = stress::allowed(coefficient, shell);
     Stresses {
@@ -84,13 +84,14 @@ fn bottom_stresses(e: Entries) -> Stresses
 }
 
 // The coefficient of pressure: none for anchored tanks.
-fn coefficient(level: u32, anchors: Anchors, shell: Shell) -> u32
-    requires { In 2 level }
-    ensures value { result ≡ cond (self_anchored anchors) (coefficient_of (argument_of level shell.diameter shell.net)) 0 }
+fn coefficient(tank: Tank, anchors: Anchors, shell: Shell) -> u32
+    requires level_in { In 2 tank.level }
+    requires gravity_in { In 20 tank.gravity }
+    ensures value { result ≡ cond (self_anchored anchors) (coefficient_of (argument_of tank.level tank.gravity shell.diameter shell.net)) 0 }
     ensures upper_bound { result ≤ most_coefficient }
 {
     if anchors.number != 0 {
         return 0;
     }
-    pressure::coefficient(pressure::argument(level, shell))
+    pressure::coefficient(pressure::argument(tank.level, tank.gravity, shell))
 }

@@ -1,4 +1,4 @@
--- What a sheet holds: document 01, "Fields and their ranges" and "Filling in"; document 02, S-1.
+-- What a sheet holds: document 01, "Fields and their ranges" and "Filling in"; document 02, S-1 and S-8.
 use Rattle.std.specs.Prelude.{sum_by, get_or, List, [], ◌∷◌, ℕ, replicate, take, None}
 use Rattle.fields.specs.Order.{Figure, ◌is◌, values}
 use Rattle.entries.specs.declared.sheet.Tank.{Tank}
@@ -7,10 +7,10 @@ use Rattle.entries.specs.declared.sheet.Anchors.{Anchors}
 use Rattle.entries.specs.declared.sheet.Course.{Course}
 use Rattle.entries.specs.declared.sheet.Sheet.{Sheet}
 
--- The figures of each step with their fields: 1 to 6, 7 to 11, 12 to 14, 15 to 19.
+-- The figures of each step with their fields: 1 to 6 and 20, 7 to 11, 12 to 14, 15 to 19.
 abbrev pub tank_fields : Tank → List Figure
 tank_fields t =
-    (1 is t.diameter) ∷ (2 is t.level) ∷ (3 is t.weight) ∷ (4 is t.plate) ∷ (5 is t.allowance) ∷ (6 is t.fy) ∷ []
+    (1 is t.diameter) ∷ (2 is t.level) ∷ (3 is t.weight) ∷ (4 is t.plate) ∷ (5 is t.allowance) ∷ (6 is t.fy) ∷ (20 is t.gravity) ∷ []
 
 abbrev pub site_fields : Site → List Figure
 site_fields x = (7 is x.speed) ∷ (8 is x.exposure) ∷ (9 is x.importance) ∷ (10 is x.vertical) ∷ (11 is x.moment) ∷ []
@@ -45,6 +45,7 @@ tank_with xs =
       plate = get_or xs 3 0;
       allowance = get_or xs 4 0;
       fy = get_or xs 5 0;
+      gravity = get_or xs 6 0;
     }
 
 abbrev pub site_with : List ℕ → Site

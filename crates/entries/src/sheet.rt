@@ -8,7 +8,7 @@ pub const MOST_COURSES: usize = 12;
 
 pub const MOST_HEIGHT: u64 = 76800;
 
-// Fields 1 to 6.
+// Fields 1 to 6, and 20.
 #[derive(Clone, Copy, Debug, PartialEq, Eq)]
 pub struct Tank {
     pub diameter: u32,
@@ -20,6 +20,8 @@ pub struct Tank {
     pub plate: u32,
     pub allowance: u32,
     pub fy: u32,
+    // The liquid's specific gravity in thousandths; water has 1,000.
+    pub gravity: u32,
 }
 
 // Fields 7 to 11.
@@ -81,14 +83,14 @@ pub trait Entry<const N: usize>: Copy {
     ghost restores: { (e : Self) → entry_of (figures_of e) ≡ e };
 }
 
-impl Entry<6> for Tank {
+impl Entry<7> for Tank {
     ghost figures_of = { tank_figures };
 
     ghost entry_of = { tank_with };
 
     ghost restores = { λ t. refl };
 
-    fn figures(self) -> [u32; 6] {
+    fn figures(self) -> [u32; 7] {
         [
             self.diameter,
             self.level,
@@ -96,13 +98,14 @@ impl Entry<6> for Tank {
             self.plate,
             self.allowance,
             self.fy,
+            self.gravity,
         ]
     }
 
-    fn with(figures: [u32; 6]) -> Self
+    fn with(figures: [u32; 7]) -> Self
         ensures { result ≡ tank_with figures }
     {
-        let [diameter, level, weight, plate, allowance, fy] = figures;
+        let [diameter, level, weight, plate, allowance, fy, gravity] = figures;
         Tank {
             diameter,
             level,
@@ -110,6 +113,7 @@ impl Entry<6> for Tank {
             plate,
             allowance,
             fy,
+            gravity,
         }
     }
 }

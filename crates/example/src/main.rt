@@ -30,6 +30,7 @@ fn example() -> Sheet {
         plate: 250,
         allowance: 0,
         fy: 36000,
+        gravity: 1000,
     });
     let site = Step::StateSite(Site {
         speed: 105,

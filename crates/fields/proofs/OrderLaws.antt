@@ -166,6 +166,15 @@ module _ {A : Type 0} (v : A) where
   given_as (Ok u) = (λ e. refl, λ e. refl)
   given_as (Err r) = (clash, clash)
 
+  -- its code, and with that the two clauses of a function that gives such a reply
+  pub reply_code : (a : Answer) → answer_code (reply_unless a v) ≡ answer_code a
+  reply_code (Ok u) = refl
+  reply_code (Err r) = refl
+
+  pub reply_coded : (cs : List Condition) {y : Result A Refusal} → y ≡ reply_unless (first_of cs) v
+      → (y ≡ reply_unless (first_of cs) v) × (answer_code y ≡ first_code cs)
+  reply_coded cs e = (e, ap answer_code e ∙ reply_code (first_of cs) ∙ first_code_lem cs)
+
   -- each refusal exactly under its condition with none before it,
   pub reply_refused_exactly : (cs : List Condition) (r : Refusal) → (reply_unless (first_of cs) v ≡ Err r) ↔ First cs r
   reply_refused_exactly cs r =

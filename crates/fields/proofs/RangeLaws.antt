@@ -2,6 +2,7 @@
 -- Assumes nothing.
 use mathlib.Core.Path.{◌≡◌, refl, sym, ap, ◌∙◌, subst}
 use mathlib.Core.Bool.{Bool, true, false, not, ◌&&◌, ◌||◌}
+use mathlib.Core.List.{[], ◌∷◌, map}
 use mathlib.Core.Logic.{◌⊎◌, inl, inr}
 use Prim.Native.Nat.{ℕ, zero, suc, ◌≤◌, ◌<◌}
 use native.Mathlib.Nat.{lt_of_not-le, le_of_suc-le-suc}
@@ -14,7 +15,7 @@ use borrow.Author.Tests.{le-leb, lt-leb, ne_eqb}
 use Rattle.exact.proofs.Table.{at_each}
 use Rattle.fields.specs.Range.{Range, ranges, range, ◌to◌, between, within, In}
 
-pub none_past : (k : ℕ) → 19 < k → range k ≡ (1 to 0)
+pub none_past : (k : ℕ) → 20 < k → range k ≡ (1 to 0)
 none_past zero h = refl
 none_past (suc k) h = get_or-eq_default ranges (1 to 0) (le_of_suc-le-suc h)
 
@@ -23,15 +24,15 @@ abbrev only_n : ℕ → Bool
 only_n k = eqb k 12 || not (range k).or_zero
 
 pub no_zero : (k : ℕ) → (k ≡ 12 → ⊥) → (range k).or_zero ≡ false
-no_zero k h = go (dec_le k 19)
+no_zero k h = go (dec_le k 20)
   where
     pick : (b o : Bool) → b ≡ false → T (b || not o) → o ≡ false
     pick false true e t = absurd t
     pick false false e t = refl
     pick true o e t = absurd (subst T e tt)
 
-    go : Dec (k ≤ 19) → (range k).or_zero ≡ false
-    go (yes l) = pick (eqb k 12) (range k).or_zero (ne_eqb k 12 h) (at_each only_n 20 tt k (omega arith))
+    go : Dec (k ≤ 20) → (range k).or_zero ≡ false
+    go (yes l) = pick (eqb k 12) (range k).or_zero (ne_eqb k 12 h) (at_each only_n 21 tt k (omega arith))
     go (no f) = ap (λ (r : Range). r.or_zero) (none_past k (lt_of_not-le f))
 
 -- a figure that passed the test is between the ends
@@ -58,7 +59,7 @@ pub inside : (r : Range) (x : ℕ) → r.least ≤ x → x ≤ r.greatest → tr
 unfolding between
 inside r x h k = rw (le-leb _ _ h, le-leb _ _ k)
 
-pub nowhere : (k x : ℕ) → 19 < k → false ≡ between (range k) x
+pub nowhere : (k x : ℕ) → 20 < k → false ≡ between (range k) x
 nowhere k x h = subst (λ (r : Range). false ≡ between r x) (sym (none_past k h)) (go x)
   where
     go : (x : ℕ) → false ≡ between (1 to 0) x
@@ -86,6 +87,11 @@ within_none k x e z = rw (e, z)
 pub in_of_within : (k x : ℕ) → (k ≡ 12 → ⊥) → within (range k) x ≡ true → In k x
 in_of_within k x h e = in_of_between k x (subst T (sym (within_plain k x h ∙ e)) tt)
 
+-- Field 20 at either end and one past it: bounds alone would let another end through, in definition and code alike.
+pub gravity_ends : map (within (range 20)) (999 ∷ 1000 ∷ 1300 ∷ 1301 ∷ []) ≡ false ∷ true ∷ true ∷ false ∷ []
+unfolding within between
+gravity_ends = refl
+
 -- no figure that is in a range is above the greatest of them all
 abbrev at_most : ℕ → Bool
 at_most k = leb (range k).greatest 1000000000
@@ -94,10 +100,10 @@ pub within_most : (k x : ℕ) → within (range k) x ≡ true → x ≤ 10000000
 unfolding within
 within_most k x e = go (or_yes ((range k).or_zero && eqb x 0) (between (range k) x) (subst T (sym e) tt))
   where
-    top : Dec (k ≤ 19) → (range k).greatest ≤ 1000000000
-    top (yes l) = leb→le (range k).greatest 1000000000 (at_each at_most 20 tt k (omega arith))
+    top : Dec (k ≤ 20) → (range k).greatest ≤ 1000000000
+    top (yes l) = leb→le (range k).greatest 1000000000 (at_each at_most 21 tt k (omega arith))
     top (no f) = subst (λ (r : Range). r.greatest ≤ 1000000000) (sym (none_past k (lt_of_not-le f))) (omega arith)
 
     go : T ((range k).or_zero && eqb x 0) ⊎ T (between (range k) x) → x ≤ 1000000000
     go (inl z) = omega (arith, eqb→eq x 0 (and_yes (range k).or_zero (eqb x 0) z).1)
-    go (inr b) = omega (arith, (in_of_between k x b).1, top (dec_le k 19))
+    go (inr b) = omega (arith, (in_of_between k x b).1, top (dec_le k 20))

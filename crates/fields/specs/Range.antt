@@ -15,7 +15,7 @@ a to b = record { least = a; greatest = b; or_zero = false }
 abbrev pub zero_or : Range → Range
 zero_or r = record { least = r.least; greatest = r.greatest; or_zero = true }
 
--- by the fields' numbers, 1 to 19
+-- by the fields' numbers, 1 to 20
 abbrev pub ranges : List Range
 ranges =
     (12000 to 240000)  -- 1 D, diameter
@@ -37,6 +37,7 @@ ranges =
     ∷ (0 to 250)  -- 17 its allowance c
     ∷ (10000 to 40000)  -- 18 s, design stress
     ∷ (50 to 100)  -- 19 E, joint efficiency in hundredths
+    ∷ (1000 to 1300)  -- 20 specific gravity in thousandths (document 02, S-8)
     ∷ []
 
 -- the range of the field with this number; a number that is no field's has an empty one

@@ -3,7 +3,7 @@ ghost use Rattle.std.specs.Prelude.{◌≡◌};
 ghost use Rattle.fields.specs.Range.{range, within, between};
 
 // The ends of each field's range, by the field's number; place 0 stands for no field, and is empty.
-const RANGES: [(u32, u32); 20] = [
+const RANGES: [(u32, u32); 21] = [
     (1, 0),
     (12000, 240000),
     (1200, 76800),
@@ -24,6 +24,7 @@ const RANGES: [(u32, u32); 20] = [
     (0, 250),
     (10000, 40000),
     (50, 100),
+    (1000, 1300),
 ];
 
 // The one field that may also be 0: N, the number of anchors.

@@ -3,9 +3,9 @@
 -- the chart. And that what stands where nothing was stated has a flaw.
 -- Assumes nothing.
 use Rattle.std.specs.Prelude.{None, Ok}
-use mathlib.Core.Path.{◌≡◌, sym, ap, ◌∙◌, subst}
+use mathlib.Core.Path.{◌≡◌, refl, sym, ap, ◌∙◌, subst}
 use mathlib.Core.Bool.{Bool, true, false, not, ◌&&◌}
-use mathlib.Core.List.{List, [], ◌∷◌, ◌++◌}
+use mathlib.Core.List.{List, [], ◌∷◌, ◌++◌, map}
 use Prim.Native.Nat.{ℕ, zero, suc, ◌≤◌, ◌<◌}
 use native.Mathlib.Nat.{le_of_suc-le-suc, not-suc-le-zero}
 use native.Mathlib.Omega.{arith}
@@ -20,8 +20,8 @@ use Rattle.fields.proofs.RangeLaws.{in_of_within, in_of_between, within_some}
 use Rattle.fields.specs.Order.{Condition, ◌when◌, first_of, clear, Figure, ◌is◌, outside}
 use Rattle.fields.proofs.OrderLaws.{first_cons, first_append, clear_accepted}
 use Rattle.lists.proofs.BoolLaws.{both_fail}
-use Rattle.entries.specs.Sheet.{tank_fields, site_fields, anchor_fields, course_fields}
-use Rattle.flaws.specs.Flaws.{allowance_too_large, bad_anchors, tank_flaws, site_flaws, anchor_flaws, course_flaws, tank_of, site_of, anchors_of}
+use Rattle.entries.specs.Sheet.{tank_fields, site_fields, anchor_fields, course_fields, course_with}
+use Rattle.flaws.specs.Flaws.{allowance_too_large, bad_anchors, too_high, tank_flaws, site_flaws, anchor_flaws, course_flaws, tank_of, site_of, anchors_of}
 use Rattle.entries.specs.declared.sheet.Tank.{Tank}
 use Rattle.entries.specs.declared.sheet.Site.{Site}
 use Rattle.entries.specs.declared.sheet.Anchors.{Anchors}
@@ -65,6 +65,7 @@ pub record TankIn (t : Tank) : Type 0 where
   pub plate : In 4 t.plate
   pub allowance : In 5 t.allowance
   pub fy : In 6 t.fy
+  pub gravity : In 20 t.gravity
   pub net : t.allowance < t.plate
 
 pub tank_in_lem : (t : Tank) → T (clear (tank_flaws t)) → TankIn t
@@ -79,6 +80,7 @@ tank_in_lem t h =
       plate = p 3 (omega arith);
       allowance = p 4 (omega arith);
       fy = p 5 (omega arith);
+      gravity = p 6 (omega arith);
       net = leb-false t.plate t.allowance b.1;
     }
 
@@ -142,6 +144,10 @@ anchors_in_lem D a h z =
       around = ltb-false a.circle D q.0;
       size = subst T (sym (not-false (in_chart a.size) q.1)) tt;
     }
+
+-- 34 on a course of 14,400 that just fits, and on one that is a hundredth of an inch too high: no other law holds the 76,800
+pub just_high : map (λ (h : ℕ). (too_high h (course_with (14400 ∷ 100 ∷ 0 ∷ 10000 ∷ 50 ∷ []))).applies) (62400 ∷ 62401 ∷ []) ≡ false ∷ true ∷ []
+just_high = refl
 
 -- WHAT STANDS WHERE NOTHING WAS STATED HAS A FLAW
 pub blank_flawed : (T (clear (tank_flaws (tank_of None))) → ⊥)

@@ -1,5 +1,6 @@
 -- What is wrong with a step's figures: document 01, "Refusals that come from the input", 16, 17 and 18, and 34 of a course; and the figures
--- that stand where nothing was stated, which have a flaw (document 02, S-1).
+-- that stand where nothing was stated, which have a flaw (document 02, S-1). 16 "also for field 20, tried after field 6" (S-8) is by
+-- `tank_fields` of `entries`.
 use Rattle.std.specs.Prelude.{Bool, not, cond, ◌||◌, List, [], ◌∷◌, ◌++◌, ℕ, ◌+◌, leb, ltb, eqb, Option, Some, None}
 use Rattle.fields.specs.Bolt.{in_chart}
 use Rattle.fields.specs.declared.refusal.Refusal.TheVariants.{AllowanceNotBelowPlate, BadAnchors, ShellTooHigh}
@@ -13,7 +14,7 @@ use Rattle.entries.specs.Sheet.{tank_fields, site_fields, anchor_fields, course_
 -- The tank, the site and the anchors held. Where they are not stated, figures that no step accepts (`blank_flawed`), so that what was left
 -- out cannot pass for what was stated: zeros, and one anchor, since N = 0 is a statement. They stand in the entries beside a refusal.
 abbrev pub tank_of : Option Tank → Tank
-tank_of None = record { diameter = 0; level = 0; weight = 0; plate = 0; allowance = 0; fy = 0 }
+tank_of None = record { diameter = 0; level = 0; weight = 0; plate = 0; allowance = 0; fy = 0; gravity = 0 }
 tank_of (Some t) = t
 
 abbrev pub site_of : Option Site → Site

@@ -45,6 +45,7 @@ pub fn tank_flaw(t: Tank) -> Result<(), Refusal>
     check_range(4, t.plate)?;
     check_range(5, t.allowance)?;
     check_range(6, t.fy)?;
+    check_range(20, t.gravity)?;
     check_allowance(t.plate, t.allowance)
 }
 

@@ -20,7 +20,7 @@ fn line(method: Method, tank: Tank, edge: u32, c: Course) -> CourseLine
 {
     let h = hoop::head(tank.level, edge);
     let design = hoop::design_head(method, h);
-    let need = hoop::need(design, tank.diameter, c.stress, c.efficiency);
+    let need = hoop::need(design, tank.diameter, tank.gravity, c.stress, c.efficiency);
     let required = hoop::required(need, c.allowance, tank.diameter);
     let verdict = hoop::check(required, c.plate);
     CourseLine {

@@ -19,7 +19,14 @@ fn resistance(e: &Entries) -> u64
     let tank = e.tank;
     let shell = earthquake::shell_weight(tank.weight, e.site.vertical, tank.diameter);
     let net = tank.plate - tank.allowance;
-    let bottom = earthquake::bottom_weight(net, tank.fy, tank.level, tank.diameter);
+    let root_yield = earthquake::root_yield(tank.fy, tank.gravity);
+    let bottom = earthquake::bottom_weight(
+        net,
+        root_yield,
+        tank.level,
+        tank.diameter,
+        tank.gravity,
+    );
     earthquake::resistance(tank.diameter, shell, bottom)
 }
 

@@ -15,11 +15,13 @@ use Rattle.entries.specs.declared.sheet.Site.{Site}
 use Rattle.entries.specs.declared.sheet.Anchors.{Anchors}
 use Rattle.entries.specs.declared.sheet.Course.{Course}
 use Rattle.flaws.proofs.FieldLaws.{Pass}
-use Rattle.layout.specs.Numbers.{AllBytes, two, fours, two_in, four_in, figures_from}
-use Rattle.layout.specs.Layout.{version1, tail_length, body_length, prefix_of, tail_head, courses_figures, tail_of, layout}
-use Rattle.layout.specs.Header.{tank_in, site_in, anchors_in, course_in, courses_in, tail_in, Header}
+use Rattle.layout.specs.Numbers.{AllBytes, two, four, fours, two_in, four_in, figures_from, figures_in}
+use Rattle.layout.specs.declared.version.Version.{Version}
+use Rattle.layout.specs.declared.version.Version.TheVariants.{One, Two}
+use Rattle.layout.specs.Layout.{version_number, tank_count, prefix_length, tail_length, body_length, prefix_of, tail_head, courses_figures, tail_of, layout}
+use Rattle.layout.specs.Header.{tank_in, site_in, anchors_in, course_in, courses_in, tail_in, renewed, Header}
 use Rattle.layout.proofs.NumberLaws.{fours_append, four_back, two_back, back_two, bytes_drop, figures_back}
-use Rattle.layout.proofs.LayoutLaws.{layout_length}
+use Rattle.layout.proofs.LayoutLaws.{whole_parts, layout_length}
 
 -- ---- read, then laid out
 
@@ -59,31 +61,58 @@ tail_same n l k h e =
     ∙ ap (λ (z : List ℕ). take 20 l ++ (take 12 (drop 20 l) ++ (get_or l 32 0 ∷ z))) (courses_back n (drop 33 l) (bytes_drop l 33 k) (omega (arith, length-drop 33 l)) ∙ all)
     ∙ sym (cut 20 0 l ∙ ap (λ (z : List ℕ). take 20 l ++ z) (cut 12 20 l ∙ ap (λ (z : List ℕ). take 12 (drop 20 l) ++ z) (drop-cons l 32 0 (omega arith))))
 
--- the prefix of version 1
-prefix_same : (n : ℕ) (b : List ℕ) → AllBytes b → 27 ≤ length b → two_in b ≡ body_length version1 n → get_or b 2 0 ≡ 1
-    → prefix_of version1 n (tank_in (drop 3 b)) ≡ take 27 b
-unfolding prefix_of
-prefix_same n b k h e v =
-    let t = fours (tank_figures (tank_in (drop 3 b))) in
-    ap (λ (z : ℕ). two z ++ (1 ∷ t)) (sym e)
-    ∙ ap (λ (z : List ℕ). z ++ (1 ∷ t)) (back_two b k (omega arith))
-    ∙ ap (λ (z : List ℕ). take 2 b ++ (1 ∷ z)) (figures_back 6 0 (drop 3 b) (bytes_drop b 3 k) (omega (arith, length-drop 3 b)))
-    ∙ ap (λ (z : ℕ). take 2 b ++ (z ∷ take 24 (drop 3 b))) (sym v)
-    ∙ sym (take-add 2 25 b ∙ ap (λ (z : List ℕ). take 2 b ++ take 25 z) (drop-cons b 2 0 (omega arith)))
+-- the prefix: the figures that a version has
+tank_kept : (v : Version) (b : List ℕ) → take (tank_count v) (tank_figures (tank_in v b)) ≡ figures_in (tank_count v) b
+tank_kept One b = refl
+tank_kept Two b = refl
 
-module _ (b : List ℕ) (h : Header b) where
+prefix_same : (v : Version) (n : ℕ) (b : List ℕ) → AllBytes b → prefix_length v ≤ length b → two_in b ≡ body_length v n → get_or b 2 0 ≡ version_number v
+    → prefix_of v n (tank_in v (drop 3 b)) ≡ take (prefix_length v) b
+unfolding prefix_of
+prefix_same v n b k h e m =
+    let x = version_number v in
+    let c = tank_count v in
+    let t = fours (take c (tank_figures (tank_in v (drop 3 b)))) in
+    let i : prefix_length v ≡ 2 + suc (4 * c) = omega arith in
+    ap (λ (z : ℕ). two z ++ (x ∷ t)) (sym e)
+    ∙ ap (λ (z : List ℕ). z ++ (x ∷ t)) (back_two b k (omega arith))
+    ∙ ap (λ (z : List ℕ). take 2 b ++ (x ∷ fours z)) (tank_kept v (drop 3 b))
+    ∙ ap (λ (z : List ℕ). take 2 b ++ (x ∷ z)) (figures_back c 0 (drop 3 b) (bytes_drop b 3 k) (omega (arith, length-drop 3 b)))
+    ∙ ap (λ (z : ℕ). take 2 b ++ (z ∷ take (4 * c) (drop 3 b))) (sym m)
+    ∙ sym (ap (λ (z : ℕ). take z b) i ∙ take-add 2 (suc (4 * c)) b ∙ ap (λ (z : List ℕ). take 2 b ++ take (suc (4 * c)) z) (drop-cons b 2 0 (omega arith)))
+
+module _ (v : Version) (b : List ℕ) (h : Header v b) where
   abbrev pub tail : List ℕ
-  tail = tail_in version1 b
+  tail = tail_in v b
 
   -- FIGURES THAT ARE READ AND LAID OUT AGAIN ARE THE SAME BYTES
   pub same_bytes : AllBytes b
-      → layout version1 (tank_in (drop 3 b)) (site_in tail) (anchors_in (drop 20 tail)) (courses_in h.n (drop 33 tail)) ≡ b
+      → layout v (tank_in v (drop 3 b)) (site_in tail) (anchors_in (drop 20 tail)) (courses_in h.n (drop 33 tail)) ≡ b
   same_bytes k =
+      let p = prefix_length v in
       let rest = tail_of (site_in tail) (anchors_in (drop 20 tail)) (courses_in h.n (drop 33 tail)) in
-      ap (λ (m : ℕ). prefix_of version1 m (tank_in (drop 3 b)) ++ rest) (courses_in_length h.n (drop 33 tail))
-      ∙ ap (λ (z : List ℕ). z ++ rest) (prefix_same h.n b k (omega (arith, h.whole)) h.body h.version)
-      ∙ ap (λ (z : List ℕ). take 27 b ++ z) (tail_same h.n tail (bytes_drop b 27 k) (omega (arith, length-drop 27 b, h.whole)) h.count)
-      ∙ take-append-drop 27 b
+      let whole = h.whole ∙ whole_parts v h.n in
+      ap (λ (m : ℕ). prefix_of v m (tank_in v (drop 3 b)) ++ rest) (courses_in_length h.n (drop 33 tail))
+      ∙ ap (λ (z : List ℕ). z ++ rest) (prefix_same v h.n b k (omega (arith, whole)) h.body h.version)
+      ∙ ap (λ (z : List ℕ). take p b ++ z) (tail_same h.n tail (bytes_drop b p k) (omega (arith, length-drop p b, whole)) h.count)
+      ∙ take-append-drop p b
+
+-- and those of version 1, laid out as version 2, are renewed
+pub renewed_bytes : (b : List ℕ) (h : Header One b) → AllBytes b
+    → layout Two (tank_in One (drop 3 b)) (site_in (tail One b h)) (anchors_in (drop 20 (tail One b h))) (courses_in h.n (drop 33 (tail One b h))) ≡ renewed b
+unfolding prefix_of
+renewed_bytes b h k =
+    let t = tail One b h in
+    let cs = courses_in h.n (drop 33 t) in
+    let rest = tail_of (site_in t) (anchors_in (drop 20 t)) cs in
+    let xs = figures_in 6 (drop 3 b) in
+    let n : body_length Two (length cs) ≡ two_in b + 4 = omega (arith, courses_in_length h.n (drop 33 t), h.body) in
+    let whole = h.whole ∙ whole_parts One h.n in
+    ap (λ (z : ℕ). (two z ++ (2 ∷ fours (xs ++ (1000 ∷ [])))) ++ rest) n
+    ∙ ap (λ (z : List ℕ). (two (two_in b + 4) ++ (2 ∷ z)) ++ rest) (fours_append xs (1000 ∷ []))
+    ∙ ap (λ (z : List ℕ). (two (two_in b + 4) ++ (2 ∷ (z ++ four 1000))) ++ rest) (figures_back 6 0 (drop 3 b) (bytes_drop b 3 k) (omega (arith, length-drop 3 b, whole)))
+    ∙ ap (λ (z : List ℕ). two (two_in b + 4) ++ (2 ∷ z)) (append_assoc (take 24 (drop 3 b)) (four 1000) rest)
+    ∙ ap (λ (z : List ℕ). two (two_in b + 4) ++ (2 ∷ (take 24 (drop 3 b) ++ (four 1000 ++ z)))) (tail_same h.n t (bytes_drop b 27 k) (omega (arith, length-drop 27 b, whole)) h.count)
 
 -- ---- laid out, then read
 
@@ -137,31 +166,31 @@ module _ (x : Site) (a : Anchors) (cs : List Course) where
   pub courses_back_again : SmallCourses cs → courses_in (length cs) (drop 33 tail_laid) ≡ cs
   courses_back_again h = ap (λ (l : List ℕ). courses_in (length cs) l) courses_laid ∙ courses_read h
 
--- and so do those of version 1
+-- and so do those of version 2
 module _ (t : Tank) (x : Site) (a : Anchors) (cs : List Course) where
   abbrev pub laid : List ℕ
-  laid = layout version1 t x a cs
+  laid = layout Two t x a cs
 
-  pub tank_back : Small (tank_figures t) → tank_in (drop 3 laid) ≡ t
+  pub tank_back : Small (tank_figures t) → tank_in Two (drop 3 laid) ≡ t
   unfolding prefix_of
   tank_back h = ap tank_with (figures_read (tank_figures t) 0 (drop 3 laid) (tail_of x a cs) refl h)
 
-  pub tail_back : tail_in version1 laid ≡ tail_of x a cs
+  pub tail_back : tail_in Two laid ≡ tail_of x a cs
   unfolding prefix_of
   tail_back = refl
 
-  pub laid_length : length cs ≤ 12 → two_in laid ≡ body_length version1 (length cs)
+  pub laid_length : length cs ≤ 12 → two_in laid ≡ body_length Two (length cs)
   unfolding prefix_of
-  laid_length m = two_back (body_length version1 (length cs)) (drop 2 laid) (omega arith)
+  laid_length m = two_back (body_length Two (length cs)) (drop 2 laid) (omega arith)
 
-  pub laid_header : 1 ≤ length cs → length cs ≤ 12 → Header laid
+  pub laid_header : 1 ≤ length cs → length cs ≤ 12 → Header Two laid
   unfolding prefix_of tail_head
   laid_header l m =
       record {
         n = length cs;
         some = l;
         few = m;
-        whole = layout_length t x a cs;
+        whole = layout_length Two t x a cs;
         body = laid_length m;
         version = refl;
         count = refl;

@@ -14,17 +14,25 @@ use Rattle.entries.specs.declared.sheet.Site.{Site}
 use Rattle.entries.specs.declared.sheet.Anchors.{Anchors}
 use Rattle.entries.specs.declared.sheet.Course.{Course}
 use Rattle.layout.specs.Numbers.{two, fours}
-use Rattle.layout.specs.Layout.{version1, tail_length, whole_length, prefix_of, tail_head, courses_figures, tail_of, layout}
+use Rattle.layout.specs.declared.version.Version.{Version}
+use Rattle.layout.specs.declared.version.Version.TheVariants.{One, Two}
+use Rattle.layout.specs.Layout.{prefix_length, tail_length, whole_length, prefix_of, tail_head, courses_figures, tail_of, layout}
 use Rattle.layout.proofs.NumberLaws.{fours_length, fours_append}
 
--- ---- lengths; a sheet of version 1 has "60 + 20 × n bytes"
+-- ---- lengths; a sheet of version 2 has "64 + 20 × n bytes"
 
-pub whole_of_one : (n : ℕ) → whole_length version1 n ≡ 60 + 20 * n
-whole_of_one n = omega arith
+pub whole_of_two : (n : ℕ) → whole_length Two n ≡ 64 + 20 * n
+whole_of_two n = omega arith
 
-pub prefix_length : (n : ℕ) (t : Tank) → length (prefix_of version1 n t) ≡ 27
+-- prefix and tail
+pub whole_parts : (v : Version) (n : ℕ) → whole_length v n ≡ prefix_length v + tail_length n
+whole_parts One n = omega arith
+whole_parts Two n = omega arith
+
+pub prefix_length_lem : (v : Version) (n : ℕ) (t : Tank) → length (prefix_of v n t) ≡ prefix_length v
 unfolding prefix_of
-prefix_length n t = refl
+prefix_length_lem One n t = refl
+prefix_length_lem Two n t = refl
 
 pub head_length : (x : Site) (a : Anchors) (n : ℕ) → length (tail_head x a n) ≡ 33
 unfolding tail_head
@@ -38,19 +46,19 @@ pub tail_length_lem : (x : Site) (a : Anchors) (cs : List Course) → length (ta
 tail_length_lem x a cs =
     omega (arith, length-append (tail_head x a (length cs)) (fours (courses_figures cs)), head_length x a (length cs), fours_length (courses_figures cs), courses_figures_length cs)
 
-pub layout_length : (t : Tank) (x : Site) (a : Anchors) (cs : List Course) → length (layout version1 t x a cs) ≡ whole_length version1 (length cs)
-layout_length t x a cs =
-    omega (arith, length-append (prefix_of version1 (length cs) t) (tail_of x a cs), prefix_length (length cs) t, tail_length_lem x a cs)
+pub layout_length : (v : Version) (t : Tank) (x : Site) (a : Anchors) (cs : List Course) → length (layout v t x a cs) ≡ whole_length v (length cs)
+layout_length v t x a cs =
+    omega (arith, length-append (prefix_of v (length cs) t) (tail_of x a cs), prefix_length_lem v (length cs) t, tail_length_lem x a cs, whole_parts v (length cs))
 
 -- ---- stores
 
 -- length and version, and then the tank
-module _ (n : ℕ) (t : Tank) (l : List ℕ) {o f : List ℕ} (e : o ≡ sets (sets l 0 (two (58 + 20 * n) ++ (1 ∷ []))) 3 (fours f)) (k : f ≡ tank_figures t) where
-  pub prefix_stored : o ≡ sets l 0 (prefix_of version1 n t)
+module _ (n : ℕ) (t : Tank) (l : List ℕ) {o f : List ℕ} (e : o ≡ sets (sets l 0 (two (62 + 20 * n) ++ (2 ∷ []))) 3 (fours f)) (k : f ≡ tank_figures t) where
+  pub prefix_stored : o ≡ sets l 0 (prefix_of Two n t)
   unfolding prefix_of
   prefix_stored =
       e
-      ∙ ap (λ (z : List ℕ). sets (sets l 0 (two (58 + 20 * n) ++ (1 ∷ []))) 3 (fours z)) k
+      ∙ ap (λ (z : List ℕ). sets (sets l 0 (two (62 + 20 * n) ++ (2 ∷ []))) 3 (fours z)) k
 
 -- site and anchors, and then n
 module _ (x : Site) (a : Anchors) (n : ℕ) (l : List ℕ) (at : ℕ) {p f q g : List ℕ}
@@ -87,21 +95,21 @@ courses_stored l at cs i h =
     ∙ ap (λ (z : List ℕ). sets l at z) (sym (ap (λ (z : List Course). fours (courses_figures z)) e ∙ ap fours (courses_figures_append (take i cs) (c ∷ [])) ∙ fours_append f (course_figures c)))
 
 -- the prefix, what stands before the courses, and the courses
-pub layout_stored : (t : Tank) (x : Site) (a : Anchors) (cs : List Course) (l : List ℕ) {p q r : List ℕ} → whole_length version1 (length cs) ≤ length l
-    → p ≡ sets l 0 (prefix_of version1 (length cs) t) → q ≡ sets p 27 (tail_head x a (length cs)) → r ≡ sets q 60 (fours (courses_figures cs))
-    → r ≡ layout version1 t x a cs ++ drop (whole_length version1 (length cs)) l
+pub layout_stored : (t : Tank) (x : Site) (a : Anchors) (cs : List Course) (l : List ℕ) {p q r : List ℕ} → whole_length Two (length cs) ≤ length l
+    → p ≡ sets l 0 (prefix_of Two (length cs) t) → q ≡ sets p 31 (tail_head x a (length cs)) → r ≡ sets q 64 (fours (courses_figures cs))
+    → r ≡ layout Two t x a cs ++ drop (whole_length Two (length cs)) l
 layout_stored t x a cs l {p} {q} h i j k =
-    let b = prefix_of version1 (length cs) t in
+    let b = prefix_of Two (length cs) t in
     let s = tail_head x a (length cs) in
     let f = fours (courses_figures cs) in
-    let m : 27 ≡ 0 + length b = omega (arith, prefix_length (length cs) t) in
-    let n : 60 ≡ 27 + length s = omega (arith, head_length x a (length cs)) in
+    let m : 31 ≡ 0 + length b = omega (arith, prefix_length_lem Two (length cs) t) in
+    let n : 64 ≡ 31 + length s = omega (arith, head_length x a (length cs)) in
     k
-    ∙ ap (λ (z : List ℕ). sets z 60 f) j
-    ∙ ap (λ (w : ℕ). sets (sets p 27 s) w f) n
-    ∙ sym (sets_append s f p 27)
-    ∙ ap (λ (z : List ℕ). sets z 27 (s ++ f)) i
+    ∙ ap (λ (z : List ℕ). sets z 64 f) j
+    ∙ ap (λ (w : ℕ). sets (sets p 31 s) w f) n
+    ∙ sym (sets_append s f p 31)
+    ∙ ap (λ (z : List ℕ). sets z 31 (s ++ f)) i
     ∙ ap (λ (w : ℕ). sets (sets l 0 b) w (s ++ f)) m
     ∙ sym (sets_append b (s ++ f) l 0)
-    ∙ all_stored l (layout version1 t x a cs) (omega (arith, layout_length t x a cs))
-    ∙ ap (λ (w : ℕ). layout version1 t x a cs ++ drop w l) (layout_length t x a cs)
+    ∙ all_stored l (layout Two t x a cs) (omega (arith, layout_length Two t x a cs))
+    ∙ ap (λ (w : ℕ). layout Two t x a cs ++ drop w l) (layout_length Two t x a cs)

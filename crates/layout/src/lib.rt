@@ -4,4 +4,5 @@
 #![tactic(auto)]
 
 pub mod reading;
+pub mod version;
 pub mod writing;

@@ -1,22 +1,23 @@
-// A sheet's bytes stored in a buffer, part by part (document 01, "Filling in"). Each part has its place in the layout, a
-// number, so it goes beside the buffer; a count of courses is at most 12, for its length to be one.
+// A sheet's bytes stored in a buffer, part by part (document 01, "Filling in"; document 02, S-8: version 2 alone is written). Each part has
+// its place in the layout, a number, so it goes beside the buffer; a count of courses is at most 12, for its length to be one.
 ghost use Rattle.std.specs.Prelude.{◌≡◌, ◌+◌, ◌*◌, ◌≤◌, length};
 ghost use Rattle.std.proofs.lemmas.List.Edits.{sets};
 ghost use Rattle.layout.specs.Numbers.{four, fours};
-ghost use Rattle.layout.specs.Layout.{version1, prefix_of, tail_head, courses_figures};
+ghost use Rattle.layout.specs.Layout.{prefix_of, tail_head, courses_figures};
 
+use crate::version::Version;
 use entries::{Anchors, Course, Entry, Site, Tank};
 
 // Length, version and tank of a sheet with n courses.
 pub fn put_prefix(out: &mut [u8], tank: Tank, n: usize)
-    requires { (27 ≤ length out.old) × (n ≤ 12) }
-    ensures { out.new ≡ sets out.old 0 (prefix_of version1 n tank) }
+    requires { (31 ≤ length out.old) × (n ≤ 12) }
+    ensures { out.new ≡ sets out.old 0 (prefix_of Version.Two n tank) }
 {
-    let length = 58 + 20 * n;
+    let length = 62 + 20 * n;
     // By `to_be_bytes` it would have to be a u16 first.
     out[0] = (length / 256 % 256) as u8;
     out[1] = (length % 256) as u8;
-    out[2] = 1;
+    out[2] = 2;
     put_fours(out, 3, &tank.figures());
 }
 

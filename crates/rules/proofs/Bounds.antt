@@ -2,8 +2,8 @@
 -- below 2 ^ 53 with a capacity above 0.
 -- Assumes nothing.
 use mathlib.Core.Bool.{Bool, true, false, cond}
-use Prim.Native.Nat.{ℕ, ◌*◌, ◌≤◌}
-use native.Mathlib.Nat.{le_of_suc-le-suc, lt_of_mul-lt-mul_right, mul-le-mul}
+use Prim.Native.Nat.{ℕ, ◌*◌, ◌≤◌, ◌<◌}
+use native.Mathlib.Nat.{lt_of_mul-lt-mul_right, mul-le-mul}
 use native.Mathlib.Omega.{arith}
 use lib.Dec.{leb}
 use Rattle.exact.specs.Sides.{Sides}
@@ -14,7 +14,7 @@ use Rattle.rules.specs.Hoop.{head_of, design_head, hoop_exact, hoop_need, plate_
 use Rattle.rules.specs.Wind.{pressure_of, moment_of}
 use Rattle.rules.specs.declared.method.Method.{Method}
 use Rattle.rules.specs.declared.method.Method.TheVariants.{D100, Api650}
-use Rattle.rules.proofs.HoopLaws.{hoop_rounded}
+use Rattle.rules.proofs.HoopLaws.{hoop_rounded, hoop_in_steps}
 
 cond_most : (b : Bool) {x y most : ℕ} → x ≤ most → y ≤ most → cond b x y ≤ most
 cond_most true p q = p
@@ -24,11 +24,13 @@ floor_most : (D : ℕ) → plate_floor D ≤ 313
 unfolding plate_floor
 floor_most D = cond_most (leb D 60000) (omega arith) (cond_most (leb D 144000) (omega arith) (omega arith))
 
-pub need_most : (h D s E : ℕ) → h ≤ most_height → In 1 D → In 18 s → In 19 E → hoop_need h D s E ≤ most_need
+pub need_most : (h D G s E : ℕ) → h ≤ most_height → In 1 D → In 20 G → In 18 s → In 19 E → hoop_need h D G s E ≤ most_need
 unfolding hoop_exact plate_margin
-need_most h D s E a d b e =
-    le_of_suc-le-suc (lt_of_mul-lt-mul_right (72 * s * E)
-    (omega (arith, (hoop_rounded h D s E (omega arith) (omega arith)).near, mul-le-mul a d.1, mul-le-mul b.0 e.0)))
+need_most h D G s E a d g b e =
+    let near : hoop_need h D G s E < 8658 =
+    lt_of_mul-lt-mul_right (72 * s * E * 1000)
+    (omega (arith, (hoop_rounded h D G s E (omega arith) (omega arith)).near, mul-le-mul (mul-le-mul a d.1) g.1, mul-le-mul b.0 e.0)) in
+    omega (arith, near, hoop_in_steps h D G s E)
 
 pub head_most : (H y : ℕ) → In 2 H → head_of H y ≤ most_height
 unfolding head_of

@@ -9,10 +9,10 @@ most_height = (range 2).greatest
 
 -- hoop need, and required plate: that with the greatest allowance (mils)
 abbrev pub most_need : ℕ
-most_need = 6660
+most_need = 8655
 
 abbrev pub most_required : ℕ
-most_required = 6910
+most_required = 8905
 
 -- wind pressure (hundredths of a psf)
 abbrev pub most_pressure : ℕ

@@ -1,5 +1,5 @@
 -- Hoop thickness of a course: document 01, "The rules", Hoop (AWWA D100, t = 2.6 h D / (s E)), and document 02, S-3 (API 650,
--- t = 2.6 D (h - 1 ft) / (s E)) and S-7 (steps of five mils). Plate in mils.
+-- t = 2.6 D (h - 1 ft) / (s E)), S-7 (steps of five mils) and S-8 (specific gravity, the G of D100's Eq 3-40, in thousandths). Plate in mils.
 use Rattle.std.specs.Prelude.{cond, ℕ, ◌+◌, ◌-◌, ◌*◌, max, leb}
 use Rattle.exact.specs.Quotient.{Ratio, whole, up_to}
 use Rattle.rules.specs.Verdict.{verdict_of}
@@ -21,17 +21,17 @@ unfoldable pub design_head : Method → ℕ → ℕ
 design_head D100 h = h
 design_head Api650 h = h - foot
 
--- the exact need, 13 × h × D / (72 × s × E), h as the method has it
-unfoldable pub hoop_exact : ℕ → ℕ → ℕ → ℕ → Ratio
-hoop_exact h D s E = record { num = 13 * h * D; den = 72 * s * E }
+-- the exact need, 13 × h × D / (72 × s × E), h as the method has it, times G / 1,000: "multiplied by it before they are rounded"
+unfoldable pub hoop_exact : ℕ → ℕ → ℕ → ℕ → ℕ → Ratio
+hoop_exact h D G s E = record { num = 13 * h * D * G; den = 72 * s * E * 1000 }
 
 -- "The mill now quotes in steps of 5", in mils
 abbrev pub mill_step : ℕ
 mill_step = 5
 
 -- "rounded up to a multiple of 5 before the allowance is added, for D100 and API 650"
-unfoldable pub hoop_need : ℕ → ℕ → ℕ → ℕ → ℕ
-hoop_need h D s E = let f = hoop_exact h D s E in up_to mill_step f.num f.den
+unfoldable pub hoop_need : ℕ → ℕ → ℕ → ℕ → ℕ → ℕ
+hoop_need h D G s E = let f = hoop_exact h D G s E in up_to mill_step f.num f.den
 
 -- "The plate margin is five mils": the rounded need is less than this above the exact one
 unfoldable pub plate_margin : Ratio

@@ -9,7 +9,7 @@ ghost use Rattle.rules.specs.Verdict.{VerdictFor};
 use crate::method::Method;
 use crate::verdict::{Verdict, verdict_of};
 
-// The height of the water over a course's bottom edge, or 0.
+// The height of the liquid over a course's bottom edge, or 0.
 #[tactic(auto, unfolding(crate::specs::Hoop::head_of))]
 pub fn head(level: u32, edge: u32) -> u32
     ensures { result ≡ head_of level edge }
@@ -34,17 +34,18 @@ pub fn design_head(method: Method, h: u32) -> u32
 // The mill's step, in mils.
 const STEP: u64 = 5;
 
-// The hoop need in mils, a multiple of the mill's step, without the allowance; h as the method has it.
+// The hoop need in mils, a multiple of the mill's step, without the allowance; h as the method has it, `gravity` the liquid's.
 #[tactic(auto, using(crate::proofs::Bounds::need_most), unfolding(crate::specs::Hoop::hoop_need, crate::specs::Hoop::hoop_exact, exact::specs::Quotient::up_to))]
-pub fn need(h: u32, diameter: u32, stress: u32, efficiency: u32) -> u64
+pub fn need(h: u32, diameter: u32, gravity: u32, stress: u32, efficiency: u32) -> u64
     requires h_le_most_height { h ≤ most_height }
     requires diameter_in { In 1 diameter }
+    requires gravity_in { In 20 gravity }
     requires stress_in { In 18 stress }
     requires efficiency_in { In 19 efficiency }
-    ensures { result ≡ hoop_need h diameter stress efficiency }
+    ensures { result ≡ hoop_need h diameter gravity stress efficiency }
 {
-    let num = 13 * h as u64 * diameter as u64;
-    let den = 72 * stress as u64 * efficiency as u64;
+    let num = 13 * h as u64 * diameter as u64 * gravity as u64;
+    let den = 72 * stress as u64 * efficiency as u64 * 1000;
     STEP * exact::up(num, STEP * den)
 }
 

@@ -17,8 +17,8 @@ use Rattle.fields.specs.declared.refusal.Code.{Code}
 use Rattle.fields.specs.declared.refusal.Refusal.{Refusal}
 use Rattle.fields.specs.declared.refusal.Refusal.TheVariants.{Unreachable}
 use Rattle.fields.proofs.RefusalLaws.{never_zero}
-use Rattle.fields.specs.Order.{Answer, Condition, first_of, reply_unless, First, answer_code, first_code, codes, sixteen}
-use Rattle.fields.proofs.OrderLaws.{clash, first_exactly, first_code_lem}
+use Rattle.fields.specs.Order.{Answer, Condition, first_of, First, answer_code, first_code, codes, sixteen}
+use Rattle.fields.proofs.OrderLaws.{reply_code, clash, first_exactly, first_code_lem}
 use Rattle.entries.specs.Sheet.{empty_sheet}
 use Rattle.flaws.specs.Flaws.{tank_flaws, site_flaws, anchor_flaws, course_flaws}
 use Rattle.sheet.specs.Steps.{order_of, applied, anchors_after, LeftByRun, reachable, unreachable, stated, unless, in_turn}
@@ -37,8 +37,7 @@ use Rattle.sheet.specs.declared.reading.Reading.{Reading}
 use Rattle.sheet.specs.declared.steps.Reply.{Reply}
 use Rattle.std.specs.List.{list_all}
 use Rattle.lists.proofs.BoolLaws.{T_true}
-use Rattle.layout.specs.Layout.{version1}
-use Rattle.layout.specs.Header.{read_order}
+use Rattle.layout.specs.Header.{version_in, read_order}
 use Rattle.sheet.proofs.StepLaws.{stated_applied, anchors_after_lem}
 use Rattle.sheet.proofs.ReachLaws.{reply_reachable, empty_reachable}
 use Rattle.sheet.proofs.RebuildLaws.{left_exactly}
@@ -47,7 +46,7 @@ use Rattle.sheet.proofs.RebuildLaws.{left_exactly}
 
 module _ (s : Sheet) where
   pub tank_order : (t : Tank) → codes (unreachable s ∷ order_of s (StateTank t))
-      ≡ plain 30 ∷ plain 31 ∷ sixteen 1 ∷ sixteen 2 ∷ sixteen 3 ∷ sixteen 4 ∷ sixteen 5 ∷ sixteen 6 ∷ plain 17 ∷ []
+      ≡ plain 30 ∷ plain 31 ∷ sixteen 1 ∷ sixteen 2 ∷ sixteen 3 ∷ sixteen 4 ∷ sixteen 5 ∷ sixteen 6 ∷ sixteen 20 ∷ plain 17 ∷ []
   unfolding tank_flaws
   tank_order t = refl
 
@@ -69,7 +68,7 @@ module _ (s : Sheet) where
   pub write_order_lem : (room : ℕ) → codes (write_order s room) ≡ plain 30 ∷ plain 32 ∷ plain 35 ∷ plain 36 ∷ plain 38 ∷ plain 19 ∷ []
   write_order_lem room = refl
 
-pub read_order_lem : (b : List ℕ) → codes (read_order version1 b) ≡ plain 11 ∷ plain 13 ∷ plain 11 ∷ plain 12 ∷ plain 14 ∷ plain 15 ∷ []
+pub read_order_lem : (b : List ℕ) → codes (read_order b) ≡ plain 11 ∷ plain 13 ∷ plain 11 ∷ plain 12 ∷ plain 14 ∷ plain 15 ∷ []
 read_order_lem b = refl
 
 -- ---- the codes of the answers
@@ -89,9 +88,9 @@ turn_code_lem (x ∷ xs) s =
 pub read_code_lem : (b : List ℕ) → answer_code (read_in b).answer ≡ read_code b
 unfolding read_in read_code
 read_code_lem b =
-    unless_code_lem (first_of (read_order version1 b)) (in_turn empty_sheet (steps_in version1 b))
-    ∙ ap (λ (p : Code). unless_code p (answer_code (in_turn empty_sheet (steps_in version1 b)).answer)) (first_code_lem (read_order version1 b))
-    ∙ ap (λ (p : Code). unless_code (first_code (read_order version1 b)) p) (turn_code_lem (steps_in version1 b) empty_sheet)
+    unless_code_lem (first_of (read_order b)) (in_turn empty_sheet (steps_in (version_in b) b))
+    ∙ ap (λ (p : Code). unless_code p (answer_code (in_turn empty_sheet (steps_in (version_in b) b)).answer)) (first_code_lem (read_order b))
+    ∙ ap (λ (p : Code). unless_code (first_code (read_order b)) p) (turn_code_lem (steps_in (version_in b) b) empty_sheet)
 
 pub write_code_lem : (s : Sheet) (buf : List ℕ) → write_code (written s buf).answer ≡ written_code s (length buf)
 unfolding written written_code
@@ -124,23 +123,23 @@ written_exactly s buf r =
 
 pub read_exactly : (b : List ℕ) (r : Refusal)
     → ((read_in b).answer ≡ Err r)
-    ↔ (First (read_order version1 b) r ⊎ ((first_of (read_order version1 b) ≡ Ok tt) × ((in_turn empty_sheet (steps_in version1 b)).answer ≡ Err r)))
+    ↔ (First (read_order b) r ⊎ ((first_of (read_order b) ≡ Ok tt) × ((in_turn empty_sheet (steps_in (version_in b) b)).answer ≡ Err r)))
 unfolding read_in
-read_exactly b r = go (first_of (read_order version1 b)) refl
+read_exactly b r = go (first_of (read_order b)) refl
   where
-    go : (a : Answer) → first_of (read_order version1 b) ≡ a
-        → ((unless a (in_turn empty_sheet (steps_in version1 b))).answer ≡ Err r)
-        ↔ (First (read_order version1 b) r ⊎ ((first_of (read_order version1 b) ≡ Ok tt) × ((in_turn empty_sheet (steps_in version1 b)).answer ≡ Err r)))
+    go : (a : Answer) → first_of (read_order b) ≡ a
+        → ((unless a (in_turn empty_sheet (steps_in (version_in b) b))).answer ≡ Err r)
+        ↔ (First (read_order b) r ⊎ ((first_of (read_order b) ≡ Ok tt) × ((in_turn empty_sheet (steps_in (version_in b) b)).answer ≡ Err r)))
     go (Ok u) e = ((λ f. inr (e, f)), back)
       where
-        back : First (read_order version1 b) r ⊎ ((first_of (read_order version1 b) ≡ Ok tt) × ((in_turn empty_sheet (steps_in version1 b)).answer ≡ Err r))
-            → (in_turn empty_sheet (steps_in version1 b)).answer ≡ Err r
-        back (inl f) = clash (sym ((first_exactly (read_order version1 b) r).1 f) ∙ e)
+        back : First (read_order b) r ⊎ ((first_of (read_order b) ≡ Ok tt) × ((in_turn empty_sheet (steps_in (version_in b) b)).answer ≡ Err r))
+            → (in_turn empty_sheet (steps_in (version_in b) b)).answer ≡ Err r
+        back (inl f) = clash (sym ((first_exactly (read_order b) r).1 f) ∙ e)
         back (inr f) = f.1
-    go (Err q) e = ((λ f. inl ((first_exactly (read_order version1 b) r).0 (e ∙ f))), back)
+    go (Err q) e = ((λ f. inl ((first_exactly (read_order b) r).0 (e ∙ f))), back)
       where
-        back : First (read_order version1 b) r ⊎ ((first_of (read_order version1 b) ≡ Ok tt) × ((in_turn empty_sheet (steps_in version1 b)).answer ≡ Err r)) → ◌≡◌ {A = Answer} (Err q) (Err r)
-        back (inl f) = sym e ∙ (first_exactly (read_order version1 b) r).1 f
+        back : First (read_order b) r ⊎ ((first_of (read_order b) ≡ Ok tt) × ((in_turn empty_sheet (steps_in (version_in b) b)).answer ≡ Err r)) → ◌≡◌ {A = Answer} (Err q) (Err r)
+        back (inl f) = sym e ∙ (first_exactly (read_order b) r).1 f
         back (inr f) = clash (sym e ∙ f.0)
 
 -- ---- REFUSAL 30: exactly where no run of steps leaves the sheet that is handed in
@@ -192,7 +191,7 @@ stated_reachable s x h = reply_reachable s x (stated s x) (stated_applied s x (T
 
 pub read_sheet_reachable : (b : List ℕ) → T (reachable (read_in b).sheet)
 unfolding read_in
-read_sheet_reachable b = go (first_of (read_order version1 b))
+read_sheet_reachable b = go (first_of (read_order b))
   where
     in_turn_lem : (xs : List Step) (s : Sheet) → T (reachable s) → T (reachable (in_turn s xs).sheet)
     in_turn_lem [] s h = h
@@ -202,19 +201,15 @@ read_sheet_reachable b = go (first_of (read_order version1 b))
         each_turn (Ok u) f = f
         each_turn (Err r) f = empty_reachable
 
-    go : (a : Answer) → T (reachable (unless a (in_turn empty_sheet (steps_in version1 b))).sheet)
-    go (Ok u) = in_turn_lem (steps_in version1 b) empty_sheet empty_reachable
+    go : (a : Answer) → T (reachable (unless a (in_turn empty_sheet (steps_in (version_in b) b))).sheet)
+    go (Ok u) = in_turn_lem (steps_in (version_in b) b) empty_sheet empty_reachable
     go (Err r) = empty_reachable
 
 -- ---- the clauses of the contracts of reading with the height, and of a step
 
 pub height_clauses : (b : List ℕ) {y : Result Reading Refusal} → y ≡ with_height (read_in b)
     → (y ≡ with_height (read_in b)) × (answer_code y ≡ read_code b)
-height_clauses b e = (e, ap answer_code e ∙ go (read_in b).answer ∙ read_code_lem b)
-  where
-    go : (a : Answer) → answer_code (reply_unless a (reading (read_in b).sheet)) ≡ answer_code a
-    go (Ok u) = refl
-    go (Err r) = refl
+height_clauses b e = (e, ap answer_code e ∙ reply_code (reading (read_in b).sheet) (read_in b).answer ∙ read_code_lem b)
 
 pub stated_clauses : (s : Sheet) (x : Step) {y : Reply} → y ≡ stated s x
     → (y ≡ stated s x)

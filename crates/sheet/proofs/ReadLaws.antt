@@ -15,7 +15,7 @@ use Rattle.entries.specs.declared.sheet.Site.{Site}
 use Rattle.entries.specs.declared.sheet.Anchors.{Anchors}
 use Rattle.entries.specs.declared.sheet.Course.{Course}
 use Rattle.entries.specs.declared.sheet.Sheet.{Sheet}
-use Rattle.layout.specs.Layout.{version1}
+use Rattle.layout.specs.declared.version.Version.{Version}
 use Rattle.layout.specs.Numbers.{two_in}
 use Rattle.layout.specs.Header.{tank_in, site_in, anchors_in, course_in, courses_in, tail_in, count_of}
 use Rattle.layout.proofs.HeaderLaws.{courses_next}
@@ -27,18 +27,18 @@ use Rattle.sheet.specs.Reading.{from_courses, before_courses, steps_in, with_hei
 use Rattle.sheet.proofs.StepLaws.{tank_applied, site_applied, anchors_applied, course_applied, turn_refused, turn_accepted}
 
 -- the steps as they are read, part by part
-steps_read : (b : List ℕ) {tail : List ℕ} {t : Tank} {x : Site} {a : Anchors} {n : ℕ} → tail ≡ tail_in version1 b → t ≡ tank_in (drop 3 b)
-    → x ≡ site_in tail → a ≡ anchors_in (drop 20 tail) → n ≡ count_of version1 (two_in b)
-    → (StateTank t ∷ StateSite x ∷ StateAnchors a ∷ from_courses n tail) ≡ steps_in version1 b
+steps_read : (v : Version) (b : List ℕ) {tail : List ℕ} {t : Tank} {x : Site} {a : Anchors} {n : ℕ} → tail ≡ tail_in v b → t ≡ tank_in v (drop 3 b)
+    → x ≡ site_in tail → a ≡ anchors_in (drop 20 tail) → n ≡ count_of v (two_in b)
+    → (StateTank t ∷ StateSite x ∷ StateAnchors a ∷ from_courses n tail) ≡ steps_in v b
 unfolding steps_in
-steps_read b p q r s k = rw (q, r, s, k, p)
+steps_read v b p q r s k = rw (q, r, s, k, p)
 
 -- so what these come to, the bytes do
-pub read_as : (b : List ℕ) {tail : List ℕ} {t : Tank} {x : Site} {a : Anchors} {n : ℕ} {y : Reply} → tail ≡ tail_in version1 b → t ≡ tank_in (drop 3 b)
-    → x ≡ site_in tail → a ≡ anchors_in (drop 20 tail) → n ≡ count_of version1 (two_in b)
+pub read_as : (v : Version) (b : List ℕ) {tail : List ℕ} {t : Tank} {x : Site} {a : Anchors} {n : ℕ} {y : Reply} → tail ≡ tail_in v b → t ≡ tank_in v (drop 3 b)
+    → x ≡ site_in tail → a ≡ anchors_in (drop 20 tail) → n ≡ count_of v (two_in b)
     → in_turn empty_sheet (StateTank t ∷ StateSite x ∷ StateAnchors a ∷ from_courses n tail) ≡ y
-    → with_height y ≡ with_height (in_turn empty_sheet (steps_in version1 b))
-read_as b p q r s k e = ap with_height (sym e ∙ ap (in_turn empty_sheet) (steps_read b p q r s k))
+    → with_height y ≡ with_height (in_turn empty_sheet (steps_in v b))
+read_as v b p q r s k e = ap with_height (sym e ∙ ap (in_turn empty_sheet) (steps_read v b p q r s k))
 
 -- tank, site and anchors in turn, and then other steps
 module _ (t : Tank) (x : Site) (a : Anchors) (xs : List Step) where

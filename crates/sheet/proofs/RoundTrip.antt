@@ -1,5 +1,5 @@
--- The round trips: bytes that are read and written again are the same bytes (`writes_back`); a complete sheet that is written and read again
--- is the same sheet (`reads_back`).
+-- The round trips: bytes of version 2 that are read and written again are the same bytes, and those of version 1 come out as version 2 with
+-- the same meaning (`writes_back`); a complete sheet that is written and read again is the same sheet (`reads_back`).
 -- Assumes nothing.
 use Rattle.entries.specs.declared.complete.Entries.{Entries}
 use Rattle.std.specs.Prelude.{Option, Some, Result, Ok, Err}
@@ -10,9 +10,10 @@ use native.Mathlib.Nat.{lt_of_not-le}
 use native.Mathlib.Decide.{dec_le}
 use native.Mathlib.Omega.{arith}
 use lib.Dec.{T}
-use lib.ListN.{length, take, drop}
+use lib.ListN.{length, get_or, take, drop}
 use lib.Seq.{take_at, append_snoc}
 use mir.Facts.{and_yes}
+use Rattle.fields.specs.Refusal.{plain}
 use Rattle.fields.specs.declared.refusal.Refusal.{Refusal}
 use Rattle.fields.specs.declared.refusal.Refusal.TheVariants.{BadAnchors, BufferTooShort}
 use Rattle.fields.proofs.RefusalLaws.{never_zero}
@@ -28,18 +29,20 @@ use Rattle.entries.specs.declared.sheet.Course.{Course}
 use Rattle.entries.specs.declared.sheet.Sheet.{Sheet}
 use Rattle.flaws.proofs.FieldLaws.{all_pass, both_pass}
 use Rattle.layout.specs.Numbers.{AllBytes, two_in}
-use Rattle.layout.specs.Layout.{version1, whole_length, layout}
-use Rattle.layout.specs.Header.{tank_in, site_in, anchors_in, courses_in, tail_in, count_of, read_order, Header}
+use Rattle.layout.specs.declared.version.Version.{Version}
+use Rattle.layout.specs.declared.version.Version.TheVariants.{One, Two}
+use Rattle.layout.specs.Layout.{whole_length, layout}
+use Rattle.layout.specs.Header.{tank_in, site_in, anchors_in, courses_in, tail_in, count_of, version_in, read_order, renewed, Header}
 use Rattle.layout.proofs.LayoutLaws.{layout_length}
-use Rattle.layout.proofs.HeaderLaws.{header, headed, count_of_length}
-use Rattle.layout.proofs.BackLaws.{same_bytes, courses_in_length, Small, small_of, SmallCourses, none, one, tank_back, tail_back, site_back, anchors_back, courses_back_again, laid, laid_length, laid_header}
+use Rattle.layout.proofs.HeaderLaws.{header, headed, headed_version, count_of_length}
+use Rattle.layout.proofs.BackLaws.{same_bytes, renewed_bytes, courses_in_length, Small, small_of, SmallCourses, none, one, tank_back, tail_back, site_back, anchors_back, courses_back_again, laid, laid_length, laid_header}
 use Rattle.parts.specs.Parts.{courses_clear}
 use Rattle.sheet.specs.Steps.{order_of, filled, accepted, applied, reachable, unless, in_turn, refused}
 use Rattle.sheet.specs.declared.steps.Step.{Step}
 use Rattle.sheet.specs.declared.steps.Step.TheVariants.{StateTank, StateSite, StateAnchors, AddCourse}
 use Rattle.sheet.specs.Complete.{complete_order, entries_of, courses_of, completed_of, completed_code, code_with}
 use Rattle.sheet.specs.Writing.{bytes_of, size_of, WriteReply, written, write_code, written_code}
-use Rattle.sheet.specs.Reading.{from_courses, from_anchors, from_site, steps_in, read_in, reading, with_height, unless_code, read_code, completed_from, read_completed, bytes_code, WritesBack, ReadsBack}
+use Rattle.sheet.specs.Reading.{from_courses, from_anchors, from_site, steps_in, read_in, reading, with_height, unless_code, read_code, completed_from, read_completed, bytes_code, WrittenAs, WritesBack, ReadsBack}
 use Rattle.sheet.specs.declared.reading.Reading.{Reading}
 use Rattle.sheet.specs.declared.steps.Reply.{Reply}
 use Rattle.sheet.proofs.AnswerLaws.{read_sheet_reachable, read_code_lem, write_code_lem}
@@ -87,15 +90,15 @@ courses_left (c ∷ cs) s t r e =
     }
 
 -- READING LEAVES WHAT THE BYTES HOLD
-read_holds : (b : List ℕ) (s : Sheet) (h : Header b) → in_turn empty_sheet (steps_in version1 b) ≡ accepted s
-    → Holds s (Some (tank_in (drop 3 b))) (Some (site_in (tail_in version1 b)))
-    (Some (anchors_in (drop 20 (tail_in version1 b))))
-    (courses_in h.n (drop 33 (tail_in version1 b)))
+read_holds : (v : Version) (b : List ℕ) (s : Sheet) (h : Header v b) → in_turn empty_sheet (steps_in v b) ≡ accepted s
+    → Holds s (Some (tank_in v (drop 3 b))) (Some (site_in (tail_in v b)))
+    (Some (anchors_in (drop 20 (tail_in v b))))
+    (courses_in h.n (drop 33 (tail_in v b)))
 unfolding steps_in
-read_holds b s h e =
-    let n = count_of version1 (two_in b) in
-    let tail = tail_in version1 b in
-    let x1 = StateTank (tank_in (drop 3 b)) in
+read_holds v b s h e =
+    let n = count_of v (two_in b) in
+    let tail = tail_in v b in
+    let x1 = StateTank (tank_in v (drop 3 b)) in
     let x2 = StateSite (site_in tail) in
     let x3 = StateAnchors (anchors_in (drop 20 tail)) in
     let o1 = in_turn_split empty_sheet s x1 (from_site n tail) e in
@@ -107,45 +110,22 @@ read_holds b s h e =
     let o3 = in_turn_split s2 s x3 (from_courses n tail) o2.1 in
     let s3 = filled s2 x3 in
     let r3 = filled_reachable s2 r2 x3 o3.0 in
-    let m : n ≡ h.n = ap (count_of version1) h.body ∙ count_of_length h.n in
+    let m : n ≡ h.n = ap (count_of v) h.body ∙ count_of_length v h.n in
     let p = courses_left (courses_in n (drop 33 tail)) s3 s r3 o3.1 in
     record { tank = p.tank; site = p.site; anchors = p.anchors; courses = p.courses ∙ ap (λ (k : ℕ). courses_in k (drop 33 tail)) m }
 
 -- what it takes to be read
 record Read (b : List ℕ) (s : Sheet) : Type 0 where
-  head : Header b
-  steps : in_turn empty_sheet (steps_in version1 b) ≡ accepted s
+  head : Header (version_in b) b
+  steps : in_turn empty_sheet (steps_in (version_in b) b) ≡ accepted s
 
 read_split : (b : List ℕ) (s : Sheet) → read_in b ≡ accepted s → Read b s
 unfolding read_in
-read_split b s e = go (first_of (read_order version1 b)) refl e
+read_split b s e = go (first_of (read_order b)) refl e
   where
-    go : (a : Answer) → first_of (read_order version1 b) ≡ a → unless a (in_turn empty_sheet (steps_in version1 b)) ≡ accepted s → Read b s
+    go : (a : Answer) → first_of (read_order b) ≡ a → unless a (in_turn empty_sheet (steps_in (version_in b) b)) ≡ accepted s → Read b s
     go (Ok u) f e = record { head = header b f; steps = e }
     go (Err r) f e = absurd (refused_accepted r empty_sheet s e)
-
--- BYTES THAT ARE READ AND WRITTEN AGAIN ARE THE SAME BYTES
-read_write : (b : List ℕ) (s : Sheet) → AllBytes b → read_in b ≡ accepted s → (buf : List ℕ) → length b ≤ length buf
-    → written s buf ≡ record { answer = Ok (length b); buffer = b ++ drop (length b) buf }
-unfolding bytes_of
-read_write b s k e buf l =
-    let r = read_split b s e in
-    let h = r.head in
-    let tail = tail_in version1 b in
-    let p = read_holds b s h r.steps in
-    let ok = subst (λ (y : Reply). T (reachable y.sheet)) e (read_sheet_reachable b) in
-    let n : s.count ≡ h.n = sym (held_length s ok) ∙ ap length p.courses ∙ courses_in_length h.n (drop 33 tail) in
-    let o = complete_held s (T_true (reachable s) ok) (tank_in (drop 3 b)) p.tank (λ z. omega (arith, z, n, h.some)) (site_in tail) p.site (anchors_in (drop 20 tail)) p.anchors in
-    let m : size_of (entries_of s) ≡ length b = omega (arith, n, h.whole) in
-    let same : bytes_of (entries_of s) ≡ b
-    = rw (p.tank, p.site, p.anchors, p.courses) (same_bytes b h k) in
-    write_complete s buf refl o
-    ∙ done (entries_of s) buf (omega (arith, m))
-    ∙ ap (λ (z : List ℕ). record { answer = Ok (size_of (entries_of s)); buffer = z ++ drop (size_of (entries_of s)) buf }) same
-    ∙ ap (λ (i : ℕ). record { answer = Ok i; buffer = b ++ drop i buf }) m
-
-pub writes_back : (b : List ℕ) → AllBytes b → WritesBack b (read_in b)
-writes_back b k = record { same = λ c. read_write b (read_in b).sheet k (ap (λ (a : Answer). record { answer = a; sheet = (read_in b).sheet }) (accepted_code (read_in b).answer c)) }
 
 -- ---- written, then read
 
@@ -161,10 +141,10 @@ small_courses (c ∷ cs) h =
 
 laid_steps : (t : Tank) (x : Site) (a : Anchors) (cs : List Course)
     → T (clear (tank_flaws t)) → T (clear (site_flaws x)) → T (clear (anchor_flaws t.diameter a)) → T (courses_clear cs) → length cs ≤ 12
-    → steps_in version1 (laid t x a cs) ≡ steps_of t (Some x) (Some a) cs
+    → steps_in Two (laid t x a cs) ≡ steps_of t (Some x) (Some a) cs
 unfolding steps_in tank_flaws site_flaws anchor_flaws
 laid_steps t x a cs kt kx ka kc m =
-    let n : count_of version1 (two_in (laid t x a cs)) ≡ length cs = ap (count_of version1) (laid_length t x a cs m) ∙ count_of_length (length cs) in
+    let n : count_of Two (two_in (laid t x a cs)) ≡ length cs = ap (count_of Two) (laid_length t x a cs m) ∙ count_of_length Two (length cs) in
     let y = tank_back t x a cs (clear_small (tank_fields t) (allowance_too_large t.plate t.allowance) kt) in
     let z = site_back x a cs (small_of (site_fields x) (all_pass (site_fields x) (clear_accepted (outside (site_fields x)) kx))) in
     let w = anchors_back x a cs (clear_small (anchor_fields a) (BadAnchors when bad_anchors t.diameter a) ka) in
@@ -179,20 +159,92 @@ bytes_read s o =
     let n = courses_length e v in
     let few : length (held s) ≤ 12 = omega (arith, n, v.few) in
     let h = laid_header e.tank e.site e.anchors (held s) (omega (arith, n, v.some)) few in
-    ap (λ (y : Answer). unless y (in_turn empty_sheet (steps_in version1 (layout version1 e.tank e.site e.anchors (held s))))) (headed (layout version1 e.tank e.site e.anchors (held s)) h)
+    let b = laid e.tank e.site e.anchors (held s) in
+    ap (λ (v : Version). unless (first_of (read_order b)) (in_turn empty_sheet (steps_in v b))) (headed_version Two b h)
+    ∙ ap (λ (y : Answer). unless y (in_turn empty_sheet (steps_in Two b))) (headed Two b h)
     ∙ ap (λ (xs : List Step). in_turn empty_sheet xs) (laid_steps e.tank e.site e.anchors (held s) v.tank v.site v.anchors v.courses few)
     ∙ ap (λ (y : Option Site). in_turn empty_sheet (steps_of e.tank y (Some e.anchors) (held s))) (sym w.site)
     ∙ ap (λ (y : Option Anchors). in_turn empty_sheet (steps_of e.tank s.site y (held s))) (sym w.anchors)
     ∙ rebuilt s w.reach (record { entry = e.tank; is = w.tank })
 
+bytes_length : (s : Sheet) → IsComplete s → length (bytes_of (entries_of s)) ≡ size_of (entries_of s)
+unfolding bytes_of
+bytes_length s o =
+    let e = entries_of s in
+    layout_length Two e.tank e.site e.anchors (courses_of e) ∙ ap (whole_length Two) (courses_length e (valid s o))
+
 -- A COMPLETE SHEET THAT IS WRITTEN AND READ AGAIN IS THE SAME SHEET, whatever the rest of the buffer held
 write_read : (s : Sheet) → IsComplete s → (buf : List ℕ)
     → read_in (take (size_of (entries_of s)) (bytes_of (entries_of s) ++ drop (size_of (entries_of s)) buf)) ≡ accepted s
-unfolding bytes_of
 write_read s o buf =
     let e = entries_of s in
-    let n : length (bytes_of e) ≡ size_of e = layout_length e.tank e.site e.anchors (courses_of e) ∙ ap (whole_length version1) (courses_length e (valid s o)) in
-    ap read_in (take_at (bytes_of e) (drop (size_of e) buf) (size_of e) n) ∙ bytes_read s o
+    ap read_in (take_at (bytes_of e) (drop (size_of e) buf) (size_of e) (bytes_length s o)) ∙ bytes_read s o
+
+-- ---- read, then written
+
+module _ (b : List ℕ) (s : Sheet) (e : read_in b ≡ accepted s) where
+  reached : T (reachable s)
+  reached = subst (λ (y : Reply). T (reachable y.sheet)) e (read_sheet_reachable b)
+
+  module _ (v : Version) (h : Header v b) (k : in_turn empty_sheet (steps_in v b) ≡ accepted s) where
+    abbrev tail : List ℕ
+    tail = tail_in v b
+
+    holds : Holds s (Some (tank_in v (drop 3 b))) (Some (site_in tail)) (Some (anchors_in (drop 20 tail))) (courses_in h.n (drop 33 tail))
+    holds = read_holds v b s h k
+
+    read_complete : IsComplete s
+    read_complete =
+        let n : s.count ≡ h.n = sym (held_length s reached) ∙ ap length holds.courses ∙ courses_in_length h.n (drop 33 tail) in
+        complete_held s (T_true (reachable s) reached) (tank_in v (drop 3 b)) holds.tank (λ z. omega (arith, z, n, h.some)) (site_in tail) holds.site (anchors_in (drop 20 tail)) holds.anchors
+
+    read_laid : bytes_of (entries_of s) ≡ layout Two (tank_in v (drop 3 b)) (site_in tail) (anchors_in (drop 20 tail)) (courses_in h.n (drop 33 tail))
+    unfolding bytes_of
+    read_laid = rw (holds.tank, holds.site, holds.anchors, holds.courses)
+
+-- a complete sheet is written as its bytes
+complete_written : (s : Sheet) → IsComplete s → {b : List ℕ} → bytes_of (entries_of s) ≡ b → WrittenAs s b
+complete_written s o {b} q buf l =
+    let m : size_of (entries_of s) ≡ length b = sym (bytes_length s o) ∙ ap length q in
+    write_complete s buf refl o
+    ∙ done (entries_of s) buf (omega (arith, m))
+    ∙ ap (λ (z : List ℕ). record { answer = Ok (size_of (entries_of s)); buffer = z ++ drop (size_of (entries_of s)) buf }) q
+    ∙ ap (λ (i : ℕ). record { answer = Ok i; buffer = b ++ drop i buf }) m
+
+-- BYTES OF VERSION 2 THAT ARE READ AND WRITTEN AGAIN ARE THE SAME BYTES, AND THOSE OF VERSION 1 COME OUT AS VERSION 2 WITH THE SAME MEANING
+module _ (b : List ℕ) (k : AllBytes b) (c : answer_code (read_in b).answer ≡ plain 0) where
+  abbrev s : Sheet
+  s = (read_in b).sheet
+
+  read_as_sheet : read_in b ≡ accepted s
+  read_as_sheet = ap (λ (a : Answer). record { answer = a; sheet = s }) (accepted_code (read_in b).answer c)
+
+  abbrev Leaves : List ℕ → Type 0
+  Leaves w = IsComplete s × (bytes_of (entries_of s) ≡ w)
+
+  leaves_same : get_or b 2 0 ≡ 2 → Leaves b
+  leaves_same x = let r = read_split b s read_as_sheet in go (version_in b) r.head r.steps
+    where
+      go : (v : Version) → Header v b → in_turn empty_sheet (steps_in v b) ≡ accepted s → Leaves b
+      go One h q = absurd (omega (arith, h.version, x))
+      go Two h q = (read_complete b s read_as_sheet Two h q, read_laid b s read_as_sheet Two h q ∙ same_bytes Two b h k)
+
+  leaves_renewed : get_or b 2 0 ≡ 1 → Leaves (renewed b)
+  leaves_renewed x = let r = read_split b s read_as_sheet in go (version_in b) r.head r.steps
+    where
+      go : (v : Version) → Header v b → in_turn empty_sheet (steps_in v b) ≡ accepted s → Leaves (renewed b)
+      go One h q = (read_complete b s read_as_sheet One h q, read_laid b s read_as_sheet One h q ∙ renewed_bytes b h k)
+      go Two h q = absurd (omega (arith, h.version, x))
+
+pub writes_back : (b : List ℕ) → AllBytes b → WritesBack b (read_in b)
+writes_back b k =
+    record {
+      same = λ c x. let l = leaves_same b k c x in complete_written (read_in b).sheet l.0 l.1;
+      renews = λ c x. let l = leaves_renewed b k c x in complete_written (read_in b).sheet l.0 l.1;
+      meaning = λ c x.
+          let l = leaves_renewed b k c x in
+          ap read_in (sym l.1) ∙ bytes_read (read_in b).sheet l.0 ∙ sym (read_as_sheet b k c);
+    }
 
 -- ---- the clauses of the contracts
 
@@ -249,7 +301,7 @@ turn_empty (x ∷ xs) s e = unless_empty (applied s x).answer (in_turn (applied 
 read_empty : (b : List ℕ) {r : Refusal} → (read_in b).answer ≡ Err r → read_in b ≡ refused r empty_sheet
 unfolding read_in
 read_empty b e =
-    unless_empty (first_of (read_order version1 b)) (in_turn empty_sheet (steps_in version1 b)) (turn_empty (steps_in version1 b) empty_sheet) e
+    unless_empty (first_of (read_order b)) (in_turn empty_sheet (steps_in (version_in b) b)) (turn_empty (steps_in (version_in b) b) empty_sheet) e
 
 module _ (b : List ℕ) {y : Result Reading Refusal} (q : y ≡ with_height (read_in b)) where
   -- refused as the bytes are

@@ -14,8 +14,9 @@ use Rattle.fields.specs.declared.refusal.Refusal.TheVariants.{BufferTooShort}
 use Rattle.fields.specs.Order.{Answer, ◌when◌, first_of}
 use Rattle.entries.specs.declared.sheet.Sheet.{Sheet}
 use Rattle.layout.specs.Numbers.{fours}
-use Rattle.layout.specs.Layout.{version1, whole_length, prefix_of, tail_head, courses_figures, layout}
-use Rattle.layout.proofs.LayoutLaws.{whole_of_one, layout_stored}
+use Rattle.layout.specs.declared.version.Version.TheVariants.{Two}
+use Rattle.layout.specs.Layout.{whole_length, prefix_of, tail_head, courses_figures, layout}
+use Rattle.layout.proofs.LayoutLaws.{whole_of_two, layout_stored}
 use Rattle.sheet.specs.Complete.{entries_of, courses_of, completed_of, is_thirty, order_after, Valid}
 use Rattle.sheet.specs.Writing.{bytes_of, size_of, no_room, WriteReply, write_reply, written, written_entries}
 use Rattle.entries.specs.declared.complete.Entries.{Entries}
@@ -58,27 +59,27 @@ module _ (e : Entries) (buf : List ℕ) where
   done l = rw (le-ltb _ _ l)
 
   pub entries_stored : {p q r : List ℕ} → Valid e → size_of e ≤ length buf
-      → p ≡ sets buf 0 (prefix_of version1 e.count e.tank) → q ≡ sets p 27 (tail_head e.site e.anchors e.count)
-      → r ≡ sets q 60 (fours (courses_figures (courses_of e))) → r ≡ bytes_of e ++ drop (size_of e) buf
+      → p ≡ sets buf 0 (prefix_of Two e.count e.tank) → q ≡ sets p 31 (tail_head e.site e.anchors e.count)
+      → r ≡ sets q 64 (fours (courses_figures (courses_of e))) → r ≡ bytes_of e ++ drop (size_of e) buf
   unfolding bytes_of
   entries_stored {p} v l i j k =
       let n = courses_length e v in
       layout_stored e.tank e.site e.anchors (courses_of e) buf (omega (arith, n))
-      (i ∙ ap (λ (m : ℕ). sets buf 0 (prefix_of version1 m e.tank)) (sym n))
-      (j ∙ ap (λ (m : ℕ). sets p 27 (tail_head e.site e.anchors m)) (sym n))
+      (i ∙ ap (λ (m : ℕ). sets buf 0 (prefix_of Two m e.tank)) (sym n))
+      (j ∙ ap (λ (m : ℕ). sets p 31 (tail_head e.site e.anchors m)) (sym n))
       k
-      ∙ ap (λ (m : ℕ). layout version1 e.tank e.site e.anchors (courses_of e) ++ drop (whole_length version1 m) buf) n
+      ∙ ap (λ (m : ℕ). layout Two e.tank e.site e.anchors (courses_of e) ++ drop (whole_length Two m) buf) n
 
   -- and so after the stores
-  pub stored_done : {p q r : List ℕ} → Valid e → 60 + 20 * e.count ≤ length buf
-      → p ≡ sets buf 0 (prefix_of version1 e.count e.tank) → q ≡ sets p 27 (tail_head e.site e.anchors e.count)
-      → r ≡ sets q 60 (fours (courses_figures (courses_of e)))
-      → written_entries e buf ≡ record { answer = Ok (60 + 20 * e.count); buffer = r }
+  pub stored_done : {p q r : List ℕ} → Valid e → 64 + 20 * e.count ≤ length buf
+      → p ≡ sets buf 0 (prefix_of Two e.count e.tank) → q ≡ sets p 31 (tail_head e.site e.anchors e.count)
+      → r ≡ sets q 64 (fours (courses_figures (courses_of e)))
+      → written_entries e buf ≡ record { answer = Ok (64 + 20 * e.count); buffer = r }
   stored_done {r = r} v l i j k =
       let m : size_of e ≤ length buf = omega arith in
       done m
       ∙ ap (λ (b : List ℕ). record { answer = Ok (size_of e); buffer = b }) (sym (entries_stored v m i j k))
-      ∙ ap (λ (n : ℕ). record { answer = Ok n; buffer = r }) (whole_of_one e.count)
+      ∙ ap (λ (n : ℕ). record { answer = Ok n; buffer = r }) (whole_of_two e.count)
 
 pub entries_clauses : {v w : WriteReply} → v ≡ w → (w.answer ≡ v.answer) × (w.buffer ≡ v.buffer)
 entries_clauses e = (ap (λ (z : WriteReply). z.answer) (sym e), ap (λ (z : WriteReply). z.buffer) (sym e))

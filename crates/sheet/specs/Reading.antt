@@ -1,7 +1,7 @@
 -- Reading a sheet, through the steps: document 01, "Filling in" ("Reading is the same as an empty sheet, then tank, site, anchors and the
 -- courses in turn; the first refusal ends it and the answer holds an empty sheet"). And the round trips: demand 2, "A sheet read and
--- written again has the same bytes, and a complete sheet written and read again is the same sheet".
-use Rattle.std.specs.Prelude.{◌≡◌, cond, List, [], ◌∷◌, ◌++◌, map, ℕ, ◌≤◌, eqb, length, take, drop, Result, Ok}
+-- written again has the same bytes, and a complete sheet written and read again is the same sheet", and document 02, S-8.
+use Rattle.std.specs.Prelude.{◌≡◌, cond, List, [], ◌∷◌, ◌++◌, map, ℕ, ◌≤◌, eqb, length, get_or, take, drop, Result, Ok}
 use Rattle.fields.specs.Refusal.{plain}
 use Rattle.fields.specs.declared.refusal.Code.{Code}
 use Rattle.std.specs.Result.{result_and}
@@ -12,9 +12,9 @@ use Rattle.entries.specs.declared.sheet.Tank.{Tank}
 use Rattle.entries.specs.declared.sheet.Site.{Site}
 use Rattle.entries.specs.declared.sheet.Anchors.{Anchors}
 use Rattle.entries.specs.declared.sheet.Sheet.{Sheet}
+use Rattle.layout.specs.declared.version.Version.{Version}
 use Rattle.layout.specs.Numbers.{two_in}
-use Rattle.layout.specs.Layout.{Version, version1}
-use Rattle.layout.specs.Header.{tank_in, site_in, anchors_in, courses_in, tail_in, count_of, read_order}
+use Rattle.layout.specs.Header.{tank_in, site_in, anchors_in, courses_in, tail_in, count_of, version_in, read_order, renewed}
 use Rattle.sheet.specs.Steps.{order_of, filled, applied, accepted, unless, in_turn}
 use Rattle.sheet.specs.declared.steps.Step.{Step}
 use Rattle.sheet.specs.declared.steps.Step.TheVariants.{StateTank, StateSite, StateAnchors, AddCourse}
@@ -35,10 +35,10 @@ abbrev pub from_site : ℕ → List ℕ → List Step
 from_site n tail = StateSite (site_in tail) ∷ from_anchors n tail
 
 unfoldable pub steps_in : Version → List ℕ → List Step
-steps_in v b = StateTank (tank_in (drop 3 b)) ∷ from_site (count_of v (two_in b)) (tail_in v b)
+steps_in v b = StateTank (tank_in v (drop 3 b)) ∷ from_site (count_of v (two_in b)) (tail_in v b)
 
 unfoldable pub read_in : List ℕ → Reply
-read_in b = unless (first_of (read_order version1 b)) (in_turn empty_sheet (steps_in version1 b))
+read_in b = unless (first_of (read_order b)) (in_turn empty_sheet (steps_in (version_in b) b))
 
 -- with the height of the courses, which reading keeps for 34
 abbrev pub reading : Sheet → Reading
@@ -60,7 +60,7 @@ turn_code s [] = plain 0
 turn_code s (x ∷ xs) = unless_code (first_code (order_of s x)) (turn_code (applied s x).sheet xs)
 
 unfoldable pub read_code : List ℕ → Code
-read_code b = unless_code (first_code (read_order version1 b)) (turn_code empty_sheet (steps_in version1 b))
+read_code b = unless_code (first_code (read_order b)) (turn_code empty_sheet (steps_in (version_in b) b))
 
 -- The entries of the sheet that bytes are: refused as reading is, then as a sheet that is handed in is.
 abbrev pub completed_from : Answer → Sheet → Result Entries Refusal
@@ -73,10 +73,16 @@ unfoldable pub bytes_code : List ℕ → CompletedCode
 bytes_code b =
     code_with (unless_code (read_code b) (first_code (complete_order (read_in b).sheet [] []))) (entries_of (read_in b).sheet)
 
--- Bytes that are read: writing the sheet into any buffer with room leaves just these bytes there, and the rest of it as it was.
+-- that writing a sheet into any buffer with room for these bytes leaves just them there, and the rest of it as it was
+abbrev pub WrittenAs : Sheet → List ℕ → Type 0
+WrittenAs s b = (buf : List ℕ) → length b ≤ length buf → written s buf ≡ record { answer = Ok (length b); buffer = b ++ drop (length b) buf }
+
+-- Bytes that are read: "the same-bytes rule now speaks of version 2", and "a version 1 sheet read and written comes out as version 2 with the
+-- same meaning".
 pub record WritesBack (b : List ℕ) (y : Reply) : Type 0 where
-  pub same : answer_code y.answer ≡ plain 0 → (buf : List ℕ) → length b ≤ length buf
-      → written y.sheet buf ≡ record { answer = Ok (length b); buffer = b ++ drop (length b) buf }
+  pub same : answer_code y.answer ≡ plain 0 → get_or b 2 0 ≡ 2 → WrittenAs y.sheet b
+  pub renews : answer_code y.answer ≡ plain 0 → get_or b 2 0 ≡ 1 → WrittenAs y.sheet (renewed b)
+  pub meaning : answer_code y.answer ≡ plain 0 → get_or b 2 0 ≡ 1 → read_in (renewed b) ≡ y
 
 -- A sheet that is written: the bytes written are read as the same sheet.
 pub record ReadsBack (s : Sheet) (w : Result ℕ Refusal) (buf : List ℕ) : Type 0 where

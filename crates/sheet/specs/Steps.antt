@@ -1,5 +1,5 @@
 -- The steps that fill a sheet in, and the sheets that they leave: document 01, "Filling in", "Refusals that come from the state" and
--- "Order"; document 02, S-1.
+-- "Order"; document 02, S-1 and S-8.
 use Rattle.std.specs.Prelude.{◌≡◌, Bool, not, ◌&&◌, List, [], ◌∷◌, ◌++◌, ◌+◌, leb, set, Option, Some, is_none, Ok, Err}
 use Rattle.fields.specs.declared.refusal.Refusal.{Refusal}
 use Rattle.fields.specs.declared.refusal.Refusal.TheVariants.{Unreachable, TankStated, NoTank, CoursesFull}
@@ -14,7 +14,7 @@ use Rattle.sheet.specs.declared.steps.Step.TheVariants.{StateTank, StateSite, St
 use Rattle.sheet.specs.declared.steps.Reply.{Reply}
 
 -- The order of refusals of each step, 30 aside.
--- Tank: 31, 16, 17. Site: 32, 16. Anchors: 32, 16, 18. Course: 32, 33, 16, 17, 34.
+-- Tank: 31, 16 (fields 1 to 6, then 20), 17. Site: 32, 16. Anchors: 32, 16, 18. Course: 32, 33, 16, 17, 34.
 abbrev pub order_of : Sheet → Step → List Condition
 order_of s (StateTank t) = (TankStated when not (is_none s.tank)) ∷ tank_flaws t
 order_of s (StateSite x) = (NoTank when is_none s.tank) ∷ site_flaws x

@@ -1,5 +1,5 @@
 -- Writing a sheet: document 01, "Filling in" ("Writing fills the first 60 + 20 × n bytes, gives that number, and touches no later byte") and
--- "Order"; document 02, S-1.
+-- "Order"; document 02, S-1 and S-8 ("The writer writes version 2 only and needs 64 + 20 × n bytes").
 use Rattle.fields.specs.declared.refusal.Refusal.{Refusal}
 use Rattle.std.specs.Prelude.{cond, List, [], ◌∷◌, ◌++◌, ℕ, ltb, eqb, length, drop, Result, Ok, Err}
 use Rattle.fields.specs.Refusal.{plain, code_of}
@@ -7,18 +7,19 @@ use Rattle.fields.specs.declared.refusal.Code.{Code}
 use Rattle.fields.specs.declared.refusal.Refusal.TheVariants.{BufferTooShort}
 use Rattle.fields.specs.Order.{Answer, Condition, ◌when◌, first_of, first_code}
 use Rattle.entries.specs.declared.sheet.Sheet.{Sheet}
-use Rattle.layout.specs.Layout.{version1, whole_length, layout}
+use Rattle.layout.specs.declared.version.Version.TheVariants.{Two}
+use Rattle.layout.specs.Layout.{whole_length, layout}
 use Rattle.sheet.specs.Complete.{complete_order, entries_of, courses_of}
 use Rattle.entries.specs.declared.complete.Entries.{Entries}
 
 -- the bytes of a complete sheet, and how many
 unfoldable pub bytes_of : Entries → List ℕ
-bytes_of e = layout version1 e.tank e.site e.anchors (courses_of e)
+bytes_of e = layout Two e.tank e.site e.anchors (courses_of e)
 
 abbrev pub size_of : Entries → ℕ
-size_of e = whole_length version1 e.count
+size_of e = whole_length Two e.count
 
--- 19: "buffer shorter than 60 + 20 × n"
+-- 19: "buffer shorter than 60 + 20 × n", "by the new size"
 abbrev pub no_room : Entries → ℕ → Condition
 no_room e room = BufferTooShort when ltb room (size_of e)
 

@@ -4,7 +4,7 @@
 ghost use Rattle.std.specs.Prelude.{◌≡◌, ◌≤◌, length};
 ghost use Rattle.fields.specs.Order.{answer_code};
 ghost use Rattle.entries.specs.Sheet.{empty_sheet};
-ghost use Rattle.layout.specs.Layout.{version1, tail_length};
+ghost use Rattle.layout.specs.Layout.{tail_length};
 ghost use Rattle.layout.specs.Header.{Header};
 ghost use Rattle.sheet.specs.Steps.{in_turn};
 ghost use Rattle.sheet.specs.Reading.{from_courses, before_courses, steps_in, read_in, with_height, read_code, WritesBack};
@@ -13,6 +13,7 @@ use crate::steps;
 use crate::steps::Reply;
 use entries::{Anchors, Course, MOST_COURSES, Sheet, Site, Tank};
 use fields::Refusal;
+use layout::version::Version;
 
 // A sheet that was read, and the height of its courses.
 #[derive(Clone, Copy, Debug, PartialEq, Eq)]
@@ -21,7 +22,8 @@ pub struct Reading {
     pub height: u64,
 }
 
-// The sheet that these bytes are; written again it has the same bytes. Beside a refusal it is empty. Refused:
+// The sheet that these bytes are; written again it has the same bytes, or of version 1 those of version 2. Beside a refusal it is
+// empty. Refused:
 // 11 for under two bytes, 13, 11, 12, 14, 15, and then as the steps are.
 pub fn read(bytes: &[u8]) -> Reply
     ensures value { result ≡ read_in bytes.now }
@@ -45,23 +47,23 @@ pub fn read_with_height(bytes: &[u8]) -> Result<Reading, Refusal>
     ensures value { result ≡ with_height (read_in bytes.now) }
     ensures code { answer_code result ≡ read_code bytes.now }
 {
-    layout::reading::header_flaw(bytes)?;
-    read_entries(bytes)
+    let version = layout::reading::version_in(bytes)?;
+    read_entries(version, bytes)
 }
 
 // The steps that the bytes hold, in turn: tank, site and anchors, and then the courses.
-fn read_entries(bytes: &[u8]) -> Result<Reading, Refusal>
-    requires { Header bytes.now }
-    ensures { result ≡ with_height (in_turn empty_sheet (steps_in version1 bytes.now)) }
+fn read_entries(version: Version, bytes: &[u8]) -> Result<Reading, Refusal>
+    requires { Header version bytes.now }
+    ensures { result ≡ with_height (in_turn empty_sheet (steps_in version bytes.now)) }
 {
-    let tank: Tank = layout::reading::entry_at(bytes, 3);
+    let tank = layout::reading::tank_in(version, bytes);
     flaws::tank_flaw(tank)?;
-    let tail = &bytes[27..];
+    let tail = &bytes[version.prefix()..];
     let site: Site = layout::reading::entry_at(tail, 0);
     flaws::site_flaw(site)?;
     let anchors: Anchors = layout::reading::entry_at(tail, 20);
     flaws::anchors_flaw(tank.diameter, anchors)?;
-    let n = layout::reading::count_in(bytes);
+    let n = layout::reading::count_in(version, bytes);
     read_courses(tank, site, anchors, tail, n)
 }
 

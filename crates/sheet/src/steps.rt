@@ -13,7 +13,7 @@ use parts::slots;
 // A step, with the figures that it states.
 #[derive(Clone, Copy, Debug, PartialEq, Eq)]
 pub enum Step {
-    // Fields 1 to 6, once. Refused: 30, 31, 16, 17.
+    // Fields 1 to 6 and 20, once. Refused: 30, 31, 16, 17.
     StateTank(Tank),
     // Fields 7 to 11; the later ones count. Refused: 30, 32, 16.
     StateSite(Site),

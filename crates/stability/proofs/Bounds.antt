@@ -10,11 +10,11 @@ use Rattle.exact.specs.Quotient.{Ratio, whole, positive_part}
 use Rattle.exact.specs.Sides.{Sides}
 use Rattle.exact.proofs.QuotientLaws.{down_safe, down_greatest}
 use Rattle.exact.proofs.RootLaws.{root_greatest}
-use Rattle.fields.specs.Range.{In}
+use Rattle.fields.specs.Range.{range, In}
 use Rattle.rules.specs.Bounds.{most_moment}
 use Rattle.stability.specs.Anchors.{reduced_weight, pull_of, larger_pull}
-use Rattle.stability.specs.Bounds.{WeightIn, least_yield, most_bottom, most_down, most_plate, most_pull, most_resistance, most_shell, most_up, most_yield}
-use Rattle.stability.specs.Earthquake.{shell_exact, shell_weight, root_most, bottom_root, cap_exact, bottom_cap, bottom_weight, resistance_of}
+use Rattle.stability.specs.Bounds.{WeightIn, most_bottom, most_down, most_plate, most_pull, most_resistance, most_shell, most_up, most_yield}
+use Rattle.stability.specs.Earthquake.{shell_exact, shell_weight, root_yield, root_most, bottom_root, cap_exact, bottom_cap, bottom_weight, resistance_of}
 use Rattle.stability.proofs.AnchorLaws.{pull_least, larger_is}
 use Rattle.stability.proofs.EarthquakeLaws.{root_fits}
 
@@ -27,9 +27,22 @@ shell_most W Av D w d =
     let net : 10000 - 4 * Av ≤ 10000 = omega arith in
     omega (arith, down_safe (2712000 * W * (10000 - 4 * Av)) (710000 * D) (omega arith), mul-le-mul w.1 net, mul-le-mul_left wt d.0)
 
-pub bottom_most : (tb Fy H D : ℕ) → In 2 H → In 1 D → bottom_weight tb Fy H D ≤ most_bottom
+-- the yield in the root is no less than the least Fy
+abbrev pub least_yield : ℕ
+least_yield = (range 6).least
+
+pub yield_least : (Fy G : ℕ) → In 6 Fy → In 20 G → least_yield ≤ root_yield Fy G
+unfolding root_yield
+yield_least Fy G f g = omega (arith, mul-le-mul f.0 g.0)
+
+pub yield_most : (Fy G : ℕ) → In 6 Fy → In 20 G → root_yield Fy G ≤ most_yield
+unfolding root_yield
+yield_most Fy G f g = omega (arith, mul-le-mul f.1 g.1)
+
+pub bottom_most : (tb yield H D G : ℕ) → In 2 H → In 1 D → In 20 G → bottom_weight tb yield H D G ≤ most_bottom
 unfolding bottom_weight bottom_cap cap_exact
-bottom_most tb Fy H D h d = omega (arith, down_safe (H * D) 11250 (omega arith), mul-le-mul h.1 d.1)
+bottom_most tb yield H D G h d g =
+    omega (arith, down_safe (H * D * G) 11250000 (omega arith), mul-le-mul (mul-le-mul h.1 d.1) g.1)
 
 pub resistance_most : (D wt wL : ℕ) → In 1 D → wt ≤ most_shell → wL ≤ most_bottom → resistance_of D wt wL ≤ most_resistance
 unfolding resistance_of
@@ -60,20 +73,21 @@ larger_most a b h k = rw larger_is (max-le h k)
 
 -- ---- T is above 0 for every sheet: wL alone is above 0, and D × D is at least 144,000,000
 
-bottom_above : (tb Fy H D : ℕ) → 0 < tb → tb ≤ most_plate → least_yield ≤ Fy → Fy ≤ most_yield → In 2 H → In 1 D → 0 < bottom_weight tb Fy H D
+bottom_above : (tb yield H D G : ℕ) → 0 < tb → tb ≤ most_plate → least_yield ≤ yield → yield ≤ most_yield → In 2 H → In 1 D → In 20 G
+    → 0 < bottom_weight tb yield H D G
 unfolding bottom_weight bottom_root bottom_cap cap_exact root_most
-bottom_above tb Fy H D p t g f h d =
+bottom_above tb yield H D G p t l f h d g =
     le-min
-    (root_greatest 12000000 (6241 * tb * tb * Fy * H) (omega arith) (root_fits tb Fy H t f h) 1
-    (omega (arith, mul-le-mul (mul-le-mul p p) (mul-le-mul g h.0))))
-    (down_greatest (H * D) 11250 (omega arith) 1 (omega (arith, mul-le-mul h.0 d.0)))
+    (root_greatest 12000000 (6241 * tb * tb * yield * H) (omega arith) (root_fits tb yield H t f h) 1
+    (omega (arith, mul-le-mul (mul-le-mul p p) (mul-le-mul l h.0))))
+    (down_greatest (H * D * G) 11250000 (omega arith) 1 (omega (arith, mul-le-mul (mul-le-mul h.0 d.0) g.0)))
 
-pub resistance_above : (W Av D H tb Fy : ℕ) → 0 < tb → tb ≤ most_plate → least_yield ≤ Fy → Fy ≤ most_yield → In 2 H → In 1 D
-    → 0 < resistance_of D (shell_weight W Av D) (bottom_weight tb Fy H D)
+pub resistance_above : (W Av D H G tb yield : ℕ) → 0 < tb → tb ≤ most_plate → least_yield ≤ yield → yield ≤ most_yield → In 2 H → In 1 D → In 20 G
+    → 0 < resistance_of D (shell_weight W Av D) (bottom_weight tb yield H D G)
 unfolding resistance_of
-resistance_above W Av D H tb Fy p t g f h d =
-    let sum = shell_weight W Av D + bottom_weight tb Fy H D in
-    let some : 1 ≤ sum = omega (arith, bottom_above tb Fy H D p t g f h d) in
+resistance_above W Av D H G tb yield p t l f h d g =
+    let sum = shell_weight W Av D + bottom_weight tb yield H D G in
+    let some : 1 ≤ sum = omega (arith, bottom_above tb yield H D G p t l f h d g) in
     down_greatest (D * D * sum) 144000000 (omega arith) 1 (omega (arith, mul-le-mul (mul-le-mul d.0 d.0) some))
 
 -- ---- the two sides of each comparison (a field that no range is asked of is a u32)

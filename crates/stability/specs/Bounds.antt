@@ -4,25 +4,22 @@ use Rattle.std.specs.Prelude.{ℕ, ◌≤◌, ◌<◌}
 use Rattle.exact.specs.Quotient.{Ratio}
 use Rattle.fields.specs.Range.{range}
 
--- bottom plate net of its allowance, and its yield
+-- bottom plate net of its allowance, and the yield in the root of wL, which the heaviest liquor raises
 abbrev pub most_plate : ℕ
 most_plate = (range 4).greatest
 
-abbrev pub least_yield : ℕ
-least_yield = (range 6).least
-
 abbrev pub most_yield : ℕ
-most_yield = (range 6).greatest
+most_yield = 65000
 
 -- wt and wL (hundredths of a pound per foot), and T (foot-pounds)
 abbrev pub most_shell : ℕ
 most_shell = 31830985
 
 abbrev pub most_bottom : ℕ
-most_bottom = 1638400
+most_bottom = 2129920
 
 abbrev pub most_resistance : ℕ
-most_resistance = 13387754000
+most_resistance = 13584362000
 
 -- a dead weight in pounds, as a fraction: at most the greatest W, in parts of a pound down to ten-thousandths
 pub record WeightIn (w : Ratio) : Type 0 where

@@ -1,5 +1,5 @@
--- Earthquake overturning of a self-anchored tank: document 01, "The rules" (AWWA D100, Section 13). Weights in hundredths of a pound per
--- foot of shell, resistance in foot-pounds.
+-- Earthquake overturning of a self-anchored tank: document 01, "The rules" (AWWA D100, Section 13), and document 02, S-8 (specific
+-- gravity, the G of D100's Eq 13-37, in thousandths). Weights in hundredths of a pound per foot of shell, resistance in foot-pounds.
 use Rattle.std.specs.Prelude.{Bool, true, false, cond, List, ◌⊎◌, ℕ, ◌+◌, ◌-◌, ◌*◌, min, ◌≤◌, leb}
 use Rattle.exact.specs.Quotient.{Ratio, down_of}
 use Rattle.exact.specs.Root.{root_of}
@@ -16,24 +16,28 @@ shell_exact W Av D = record { num = 2712000 * W * (10000 - 4 * Av); den = 710000
 unfoldable pub shell_weight : ℕ → ℕ → ℕ → ℕ
 shell_weight W Av D = let f = shell_exact W Av D in down_of f.num f.den
 
--- wL, the weight of the water over the bottom annulus that resists overturning: the smaller of a root and a cap. tb is the bottom plate
+-- "in wL's root, Fy becomes Fy × gravity / 1,000 rounded down": the yield that report and exact rules take, "the yield alone being rounded"
+unfoldable pub root_yield : ℕ → ℕ → ℕ
+root_yield Fy G = down_of (Fy * G) 1000
+
+-- wL, the weight of the liquid over the bottom annulus that resists overturning: the smaller of a root and a cap. tb is the bottom plate
 -- less its allowance.
 -- The root: the greatest whole n with 12,000,000 × n × n at most this.
 unfoldable pub root_most : ℕ → ℕ → ℕ → ℕ
-root_most tb Fy H = 6241 * tb * tb * Fy * H
+root_most tb yield H = 6241 * tb * tb * yield * H
 
 unfoldable pub bottom_root : ℕ → ℕ → ℕ → ℕ
-bottom_root tb Fy H = root_of 12000000 (root_most tb Fy H)
+bottom_root tb yield H = root_of 12000000 (root_most tb yield H)
 
--- The cap: H × D / 11,250, exact and rounded down.
-unfoldable pub cap_exact : ℕ → ℕ → Ratio
-cap_exact H D = record { num = H * D; den = 11250 }
+-- The cap: H × D / 11,250 times G / 1,000, exact and rounded down, once.
+unfoldable pub cap_exact : ℕ → ℕ → ℕ → Ratio
+cap_exact H D G = record { num = H * D * G; den = 11250 * 1000 }
 
-unfoldable pub bottom_cap : ℕ → ℕ → ℕ
-bottom_cap H D = let f = cap_exact H D in down_of f.num f.den
+unfoldable pub bottom_cap : ℕ → ℕ → ℕ → ℕ
+bottom_cap H D G = let f = cap_exact H D G in down_of f.num f.den
 
-unfoldable pub bottom_weight : ℕ → ℕ → ℕ → ℕ → ℕ
-bottom_weight tb Fy H D = min (bottom_root tb Fy H) (bottom_cap H D)
+unfoldable pub bottom_weight : ℕ → ℕ → ℕ → ℕ → ℕ → ℕ
+bottom_weight tb yield H D G = min (bottom_root tb yield H) (bottom_cap H D G)
 
 -- T, the resistance: D × D × (wt + wL) / 144,000,000 rounded down
 unfoldable pub resistance_of : ℕ → ℕ → ℕ → ℕ
@@ -71,13 +75,13 @@ pub record Carried (asked held y : ℕ) (most : ℕ) (cap : Ratio) : Type 0 wher
   pub by_cap : asked * cap.den ≤ held * cap.den + cap.num * y
   pub by_root : (asked ≤ held) ⊎ (12000000 * ((asked - held) * (asked - held)) ≤ most * (y * y))
 
--- The resistance with nothing rounded is at least the fraction f. Let x be 144,000,000 × f / (D × D) less the exact wt, which is what is
--- left for wL: over the divisor y = den of f × D × D × den of wt.
-unfoldable pub Resists : ℕ → ℕ → ℕ → ℕ → ℕ → ℕ → Ratio → Type 0
-Resists W Av D H tb Fy f =
+-- The resistance with nothing rounded but the yield is at least the fraction f. Let x be 144,000,000 × f / (D × D) less the exact wt, which
+-- is what is left for wL: over a divisor (`Carried`'s y) of den of f × D × D × den of wt.
+unfoldable pub Resists : ℕ → ℕ → ℕ → ℕ → ℕ → ℕ → ℕ → Ratio → Type 0
+Resists W Av D H G tb yield f =
     let wt = shell_exact W Av D in
-    Carried (144000000 * f.num * wt.den) (wt.num * (f.den * (D * D))) (f.den * (D * D) * wt.den) (root_most tb Fy H) (cap_exact H D)
+    Carried (144000000 * f.num * wt.den) (wt.num * (f.den * (D * D))) (f.den * (D * D) * wt.den) (root_most tb yield H) (cap_exact H D G)
 
--- the margin of the resistance, D × D / 72,000,000 + 1: T is less than this below the unrounded resistance
+-- the margin of the resistance, D × D / 72,000,000 + 1: T is less than this below that resistance
 unfoldable pub resistance_margin : ℕ → Ratio
 resistance_margin D = record { num = D * D + 72000000; den = 72000000 }

@@ -3,7 +3,7 @@ ghost use Rattle.std.specs.Prelude.{◌≡◌, ◌*◌, ◌≤◌, ◌<◌, Some
 ghost use Rattle.std.specs.Fmt.{styled_text};
 ghost use Rattle.fields.specs.Range.{In};
 ghost use Rattle.stability.specs.Bounds.{most_plate, most_yield, most_shell, most_bottom, most_resistance};
-ghost use Rattle.stability.specs.Earthquake.{shell_weight, bottom_root, bottom_cap, bottom_weight, resistance_of, uplift_of, uplift_word, lift_word_of, quake_verdict};
+ghost use Rattle.stability.specs.Earthquake.{shell_weight, root_yield, bottom_root, bottom_cap, bottom_weight, resistance_of, uplift_of, uplift_word, lift_word_of, quake_verdict};
 ghost use Rattle.rules.specs.Verdict.{VerdictFor};
 
 use rules::verdict::{Verdict, verdict_of};
@@ -43,37 +43,48 @@ pub fn shell_weight(weight: u32, vertical: u32, diameter: u32) -> u64
     exact::down(num, 710000 * diameter as u64)
 }
 
-// The root of wL, by the strength of the bottom plate; `plate` is net of its allowance.
-pub fn bottom_root(plate: u32, yield_stress: u32, level: u32) -> u64
+// The yield in the root of wL: the bottom plate's, by the liquid's gravity.
+#[tactic(auto, unfolding(crate::specs::Earthquake::root_yield))]
+pub fn root_yield(fy: u32, gravity: u32) -> u64
+    ensures { result ≡ root_yield fy gravity }
+{
+    exact::down(fy as u64 * gravity as u64, 1000)
+}
+
+// The root of wL, by the strength of the bottom plate; `plate` is net of its allowance, `yield_stress` is `root_yield`.
+pub fn bottom_root(plate: u32, yield_stress: u64, level: u32) -> u64
     requires plate_le_most_plate { plate ≤ most_plate }
     requires yield_stress_le_most_yield { yield_stress ≤ most_yield }
     requires level_in { In 2 level }
     ensures { result ≡ bottom_root plate yield_stress level }
 {
     let tb = plate as u64;
-    exact::greatest_root(
-        12000000,
-        6241 * tb * tb * yield_stress as u64 * level as u64,
-    )
+    exact::greatest_root(12000000, 6241 * tb * tb * yield_stress * level as u64)
 }
 
-// The cap of wL, by the water above.
-pub fn bottom_cap(level: u32, diameter: u32) -> u64
-    ensures { result ≡ bottom_cap level diameter }
+// The cap of wL, by the liquid above.
+pub fn bottom_cap(level: u32, diameter: u32, gravity: u32) -> u64
+    requires level_in { In 2 level }
+    requires diameter_in { In 1 diameter }
+    requires gravity_in { In 20 gravity }
+    ensures { result ≡ bottom_cap level diameter gravity }
 {
-    exact::down(level as u64 * diameter as u64, 11250)
+    let num = level as u64 * diameter as u64 * gravity as u64;
+    exact::down(num, 11250 * 1000)
 }
 
-// wL: the weight of the water over the bottom annulus that resists overturning, in hundredths of a
+// wL: the weight of the liquid over the bottom annulus that resists overturning, in hundredths of a
 // pound per foot of shell.
 #[tactic(auto, unfolding(crate::specs::Earthquake::bottom_weight))]
-pub fn bottom_weight(plate: u32, yield_stress: u32, level: u32, diameter: u32) -> u64
+pub fn bottom_weight(plate: u32, yield_stress: u64, level: u32, diameter: u32, gravity: u32) -> u64
     requires plate_le_most_plate { plate ≤ most_plate }
     requires yield_stress_le_most_yield { yield_stress ≤ most_yield }
     requires level_in { In 2 level }
-    ensures { result ≡ bottom_weight plate yield_stress level diameter }
+    requires diameter_in { In 1 diameter }
+    requires gravity_in { In 20 gravity }
+    ensures { result ≡ bottom_weight plate yield_stress level diameter gravity }
 {
-    bottom_root(plate, yield_stress, level).min(bottom_cap(level, diameter))
+    bottom_root(plate, yield_stress, level).min(bottom_cap(level, diameter, gravity))
 }
 
 // T: the resisting moment in foot-pounds.

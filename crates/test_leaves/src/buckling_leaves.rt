@@ -1,6 +1,7 @@
 // The leaves of `buckling`, numbered from 53.
-use crate::clamp::{COEFFICIENT, DIAMETER, LEVEL, NET_PLATE, field};
-use crate::print;
+use crate::clamp::{COEFFICIENT, DIAMETER, NET_PLATE, field};
+use crate::gravity_leaves::WATER;
+use crate::{gravity_leaves, print};
 use buckling::{Shell, pressure, stress};
 use std::io;
 use std::io::Write;
@@ -9,14 +10,10 @@ pub(crate) fn answer<W: Write>(out: &mut W, leaf: u64, arguments: [u64; 4]) -> i
     let [a, b, c, _] = arguments;
     match leaf {
         53 => print::value(out, pressure::coefficient(a)),
-        54 => print::value(out, argument(a, b, c)),
+        54 => print::value(out, gravity_leaves::argument(a, b, c, WATER)),
         55 => print::value(out, allowed(a, b, c)),
         _ => print::out(out),
     }
-}
-
-fn argument(level: u64, diameter: u64, net: u64) -> u64 {
-    pressure::argument(field(level, LEVEL), shell(diameter, net))
 }
 
 fn allowed(net: u64, diameter: u64, coefficient: u64) -> u64 {

@@ -34,6 +34,8 @@ pub(crate) const STRESS: (u64, u64) = (10000, 40000);
 
 pub(crate) const EFFICIENCY: (u64, u64) = (50, 100);
 
+pub(crate) const GRAVITY: (u64, u64) = (1000, 1300);
+
 // h or Hs.
 pub(crate) const HEIGHT: (u64, u64) = (0, 76800);
 

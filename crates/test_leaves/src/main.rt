@@ -1,5 +1,5 @@
-// Runs vectors for the leaf functions, and for questions without a sheet. Standard input is lines of five
-// numbers: which function, and its arguments, 0 where it has fewer than four. Each line's reply is written on a
+// Runs vectors for the leaf functions, and for questions without a sheet. Standard input is lines of up to six
+// numbers: which function, and its arguments, 0 where the line has fewer. Each line's reply is written on a
 // line of its own. oracle/vectors/leaf_table.py numbers the functions; the oracle makes both the vectors and what is to be written.
 #![tactic(auto)]
 
@@ -7,6 +7,7 @@ mod buckling_leaves;
 mod clamp;
 mod exact_leaves;
 mod field_leaves;
+mod gravity_leaves;
 mod method_leaves;
 mod print;
 mod question_leaves;
@@ -26,15 +27,15 @@ fn main(rt: HostRuntime) -> io::Result<()> {
     out.flush()
 }
 
-// Five numbers; what the line lacks, or what is no number, is 0: the oracle writes neither.
-fn numbers(line: &str) -> [u64; 5] {
+// Six numbers; what the line lacks is 0, and what is no number, too: the oracle writes none.
+fn numbers(line: &str) -> [u64; 6] {
     let mut words = line.split(' ');
     array::from_fn(|_| words.next().and_then(|word| word.parse().ok()).unwrap_or(0))
 }
 
 // The leaf's number is the vectors': it is matched here and in the leaf's module alone, to call a function.
-fn answer<W: Write>(out: &mut W, line: [u64; 5]) -> io::Result<()> {
-    let [leaf, a, b, c, d] = line;
+fn answer<W: Write>(out: &mut W, line: [u64; 6]) -> io::Result<()> {
+    let [leaf, a, b, c, d, e] = line;
     let arguments = [a, b, c, d];
     match leaf {
         0..=9 => exact_leaves::answer(out, leaf, arguments),
@@ -43,6 +44,7 @@ fn answer<W: Write>(out: &mut W, line: [u64; 5]) -> io::Result<()> {
         40..=49 => question_leaves::answer(out, leaf, arguments),
         50 => method_leaves::answer(out, leaf, arguments),
         51..=52 => weight_leaves::answer(out, leaf, arguments),
-        _ => buckling_leaves::answer(out, leaf, arguments),
+        53..=55 => buckling_leaves::answer(out, leaf, arguments),
+        _ => gravity_leaves::answer(out, leaf, [a, b, c, d, e]),
     }
 }

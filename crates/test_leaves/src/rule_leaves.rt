@@ -1,15 +1,15 @@
-// The leaves of `rules` and `stability`, numbered from 20; those that take a method are in `method_leaves`, those
-// of a reduced weight in `weight_leaves`.
+// The leaves of `rules` and `stability`, numbered from 20, of water; those that take a method are in `method_leaves`, those
+// of a reduced weight in `weight_leaves`, those that take a gravity in `gravity_leaves`.
 ghost use Rattle.stability.specs.Anchors.{fraction};
 ghost use Rattle.stability.specs.Bounds.{WeightIn};
 
 use crate::clamp::{
-    ALLOWANCE, ANCHORED_CIRCLE, ANCHORS, AREA, CIRCLE, DIAMETER, EFFICIENCY, EXPOSURE, HEIGHT,
-    IMPORTANCE, LEVEL, MOMENT, NET_BOTTOM, PLATE, SPEED, STRESS, VERTICAL, WEIGHT, YIELD, field,
-    figure,
+    ALLOWANCE, ANCHORED_CIRCLE, ANCHORS, AREA, CIRCLE, DIAMETER, EXPOSURE, HEIGHT, IMPORTANCE,
+    MOMENT, PLATE, SPEED, VERTICAL, WEIGHT, field, figure,
 };
 use crate::exact_leaves::signed;
-use crate::print;
+use crate::gravity_leaves::WATER;
+use crate::{gravity_leaves, print};
 use rules::verdict::Verdict;
 use rules::{hoop, wind};
 use stability::anchors::DeadWeight;
@@ -19,16 +19,16 @@ use std::io;
 use std::io::Write;
 
 // The most that the resisting moment may be.
-const MOST_RESISTANCE: u64 = 13387754000;
+const MOST_RESISTANCE: u64 = 13584362000;
 
 pub(crate) fn answer<W: Write>(out: &mut W, leaf: u64, arguments: [u64; 4]) -> io::Result<()> {
     let [a, b, c, d] = arguments;
     match leaf {
         20 => print::value(out, hoop::head(figure(a), figure(b))),
-        21 => print::value(out, need(a, b, c, d)),
+        21 => print::value(out, gravity_leaves::need(a, b, c, d, WATER)),
         22 => print::value(out, hoop::floor(figure(a))),
         23 => print::value(out, required(a, b, c)),
-        24 => print::verdict(out, hoop::check(a.min(6910), field(b, PLATE))),
+        24 => print::verdict(out, hoop::check(a.min(8905), field(b, PLATE))),
         25 => print::value(out, pressure(a, b, c)),
         26 => print::value(out, moment(a, b, c)),
         27 => print::answer(out, wind::standard_site(figure(a))),
@@ -40,9 +40,9 @@ fn standing<W: Write>(out: &mut W, leaf: u64, arguments: [u64; 4]) -> io::Result
     let [a, b, c, d] = arguments;
     match leaf {
         28 => print::value(out, shell_weight(a, b, c)),
-        29 => print::value(out, bottom_root(a, b, c)),
-        30 => print::value(out, bottom_cap(a, b)),
-        31 => print::value(out, bottom_weight(a, b, c, d)),
+        29 => print::value(out, gravity_leaves::bottom_root(a, b, c, WATER)),
+        30 => print::value(out, gravity_leaves::bottom_cap(a, b, WATER)),
+        31 => print::value(out, gravity_leaves::bottom_weight(a, b, c, d, WATER)),
         32 => print::value(out, resistance(a, b, c)),
         33 => print::value(out, uplift(a, b)),
         34 => print::verdict(out, quake(a, b)),
@@ -55,18 +55,9 @@ fn standing<W: Write>(out: &mut W, leaf: u64, arguments: [u64; 4]) -> io::Result
     }
 }
 
-fn need(h: u64, diameter: u64, stress: u64, efficiency: u64) -> u64 {
-    hoop::need(
-        field(h, HEIGHT),
-        field(diameter, DIAMETER),
-        field(stress, STRESS),
-        field(efficiency, EFFICIENCY),
-    )
-}
-
 fn required(need: u64, allowance: u64, diameter: u64) -> u64 {
     hoop::required(
-        need.min(6660),
+        need.min(8655),
         field(allowance, ALLOWANCE),
         figure(diameter),
     )
@@ -96,32 +87,11 @@ fn shell_weight(weight: u64, vertical: u64, diameter: u64) -> u64 {
     )
 }
 
-fn bottom_root(plate: u64, yield_stress: u64, level: u64) -> u64 {
-    earthquake::bottom_root(
-        field(plate, NET_BOTTOM),
-        field(yield_stress, YIELD),
-        field(level, LEVEL),
-    )
-}
-
-fn bottom_cap(level: u64, diameter: u64) -> u64 {
-    earthquake::bottom_cap(field(level, LEVEL), field(diameter, DIAMETER))
-}
-
-fn bottom_weight(plate: u64, yield_stress: u64, level: u64, diameter: u64) -> u64 {
-    earthquake::bottom_weight(
-        field(plate, NET_BOTTOM),
-        field(yield_stress, YIELD),
-        field(level, LEVEL),
-        field(diameter, DIAMETER),
-    )
-}
-
 fn resistance(diameter: u64, shell: u64, bottom: u64) -> u64 {
     earthquake::resistance(
         field(diameter, DIAMETER),
         shell.min(31830985),
-        bottom.min(1638400),
+        bottom.min(2129920),
     )
 }
 

@@ -26,7 +26,7 @@ impl<'a> Figures<'a> {
 
     // An array by value asks for a bound of its size.
     pub(crate) fn entry<const N: usize, E: Entry<N>>(&mut self) -> E
-        requires { N ≤ 6 }
+        requires { N ≤ 7 }
     {
         E::with(array::from_fn(|_| self.figure()))
     }

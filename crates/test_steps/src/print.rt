@@ -71,7 +71,7 @@ fn entry<W: Write, const N: usize, E: Entry<N>>(
     name: &str,
     entry: Option<E>,
 ) -> io::Result<()>
-    requires { N ≤ 6 }
+    requires { N ≤ 7 }
 {
     write!(out, " {name}")?;
     let Some(e) = entry else {

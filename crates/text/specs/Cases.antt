@@ -1,5 +1,6 @@
 -- What document 01 prints, "The example tank": its text, with the earthquake pull of document 02, S-5, and the needs of S-7, and that with
--- its line for N = 0; that of the tank of S-3, on which the methods differ; and, by its rule, refusals.
+-- its line for N = 0; that of the tank of S-3, on which the methods differ; the example's from its bytes of version 1, and with liquor in it
+-- (S-8); and, by its rule, refusals.
 use Rattle.std.specs.Prelude.{List, [], ◌∷◌, ◌++◌, ℕ}
 use Rattle.fields.specs.declared.refusal.Refusal.{Refusal}
 use Rattle.fields.specs.declared.refusal.Refusal.TheVariants.{TooFewBytes, TooManyBytes, BadLength, BadVersion, BadCount, OutOfRange, AllowanceNotBelowPlate, BadAnchors, BufferTooShort, Unreachable, TankStated, NoTank, CoursesFull, ShellTooHigh, NoCourse, NoSite, WaterAboveShell, AnchorsUnstated, FigureOutOfRange, BadSiteClass, BadMethod, ShellUplift}
@@ -8,8 +9,8 @@ use Rattle.entries.specs.Sheet.{no_anchors}
 use Rattle.entries.specs.declared.sheet.Sheet.{Sheet}
 use Rattle.sheet.specs.Complete.{entries_of}
 use Rattle.sheet.specs.Writing.{bytes_of}
-use Rattle.layout.specs.Cases.{example_bytes}
-use Rattle.claims.specs.Cases.{example_with, source002_with}
+use Rattle.layout.specs.Cases.{old_bytes, example_bytes, liquor_bytes}
+use Rattle.claims.specs.Cases.{example_of, example_with, source002_with}
 
 pub record PrintedCase : Type 0 where
   pub bytes : List ℕ
@@ -31,11 +32,18 @@ on_anchors = ascii "pull 2133 -191\nanchors spacing ok strength ok\n"
 abbrev pub printed_cases : List PrintedCase
 printed_cases =
     prints example_bytes (up_to_wind ++ on_anchors ++ ascii "tank sound\n")
+    ∷ prints old_bytes (up_to_wind ++ on_anchors ++ ascii "tank sound\n")
+    ∷ prints liquor_bytes
+    (ascii "course 1 70 188 250 ok\ncourse 2 45 188 250 ok\ncourse 3 25 188 250 ok\nwind 2123 73371\n" ++ on_anchors ++ ascii "tank sound\n")
     -- by D100; by API 650 its first course needs 50, which with c comes to just the floor, and the tank would be sound
     ∷ prints (sheet_bytes (source002_with 188 138))
     (ascii "course 1 55 193 188 short\ncourse 2 35 188 188 ok\ncourse 3 20 188 188 ok\nwind 2123 73371\n" ++ on_anchors ++ ascii "tank short\n")
     ∷ prints (sheet_bytes (example_with 105 30000 no_anchors)) (up_to_wind ++ ascii "self wind short resist 94646 none\ntank short\n")
+    ∷ prints (sheet_bytes (example_of 1300 105 86799 no_anchors))
+    (ascii "course 1 80 188 250 ok\ncourse 2 55 188 250 ok\ncourse 3 30 188 250 ok\nwind 2123 73371\nself wind short resist 110571 lift\ntank short\n")
     ∷ prints (sheet_bytes (example_with 59 30000 no_anchors)) (ascii "refused 16 7\n")
+    -- field 20 before 7
+    ∷ prints (sheet_bytes (example_of 999 59 30000 no_anchors)) (ascii "refused 16 20\n")
     ∷ prints [] (ascii "refused 11\n")
     ∷ []
 
@@ -49,6 +57,7 @@ refusals =
     ∷ BadCount
     ∷ OutOfRange 7
     ∷ OutOfRange 19
+    ∷ OutOfRange 20
     ∷ AllowanceNotBelowPlate
     ∷ BadAnchors
     ∷ BufferTooShort
@@ -76,6 +85,7 @@ refusal_texts =
     ∷ ascii "refused 15\n"
     ∷ ascii "refused 16 7\n"
     ∷ ascii "refused 16 19\n"
+    ∷ ascii "refused 16 20\n"
     ∷ ascii "refused 17\n"
     ∷ ascii "refused 18\n"
     ∷ ascii "refused 19\n"

@@ -1,6 +1,7 @@
 -- The whole marker: the bytes of a sheet are read, the sheet is judged, and the answer is printed.
 use Rattle.std.specs.Prelude.{List, ℕ, ◌+◌}
-use Rattle.layout.specs.Layout.{version1, whole_length}
+use Rattle.layout.specs.declared.version.Version.TheVariants.{Two}
+use Rattle.layout.specs.Layout.{whole_length}
 use Rattle.marking.specs.Marking.{marked}
 use Rattle.lines.specs.Text.{text_of}
 
@@ -9,4 +10,4 @@ marked_text b = text_of (marked b)
 
 -- One byte more than the longest sheet has: nothing past it makes a difference (`cut_same`).
 abbrev pub most_bytes : ℕ
-most_bytes = whole_length version1 12 + 1
+most_bytes = whole_length Two 12 + 1

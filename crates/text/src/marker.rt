@@ -13,7 +13,7 @@ use crate::printing;
 use crate::printing::TooSmall;
 
 // One byte more than the longest sheet has: nothing past it makes a difference to the text.
-pub const MOST_BYTES: usize = 301;
+pub const MOST_BYTES: usize = 305;
 
 // Reads the sheet that these bytes hold, judges it by D100, and fills the first bytes of the buffer with the text.
 pub fn mark(bytes: &[u8], out: &mut [u8]) -> Result<usize, TooSmall>

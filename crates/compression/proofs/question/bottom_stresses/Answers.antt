@@ -13,7 +13,9 @@ invariant_of-shell c =
     record { diameter_in = (tank_in_lem c.args.e.tank c.requires.tank).diameter; net_plate = net_in c.args.e c.requires }
 
 pub coefficient-coefficient-requires : goal.coefficient-coefficient-requires
-coefficient-coefficient-requires c = (tank_in_lem c.args.e.tank c.requires.tank).level
+coefficient-coefficient-requires c =
+    let t = tank_in_lem c.args.e.tank c.requires.tank in
+    record { level_in = t.level; gravity_in = t.gravity }
 
 pub compression-stress-requires : goal.compression-stress-requires
 compression-stress-requires c =

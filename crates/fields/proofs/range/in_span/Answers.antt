@@ -21,9 +21,9 @@ module _ (past : ℕ × ℕ) where
   abbrev is_range : ℕ → Bool
   is_range k = eqb (ends k).0 (range k).least && eqb (ends k).1 (range k).greatest
 
-  range_at : (k : ℕ) → k < 20 → ((range k).least ≡ (ends k).0) × ((range k).greatest ≡ (ends k).1)
+  range_at : (k : ℕ) → k < 21 → ((range k).least ≡ (ends k).0) × ((range k).greatest ≡ (ends k).1)
   range_at k h =
-      let both = and_yes (eqb (ends k).0 (range k).least) (eqb (ends k).1 (range k).greatest) (at_each is_range 20 tt k h) in
+      let both = and_yes (eqb (ends k).0 (range k).least) (eqb (ends k).1 (range k).greatest) (at_each is_range 21 tt k h) in
       (sym (eqb→eq _ _ both.0), sym (eqb→eq _ _ both.1))
 
 pub returns-in_default : goal.returns-in_default
@@ -33,12 +33,12 @@ pub returns-then-least-figure : goal.returns-then-least-figure
 unfolding between
 returns-then-least-figure c =
     let look = c.in-Some.ensures.lookup in
-    let e = range_at c.in-Some.field-0.now c.args.field (ltb→lt c.args.field 20 (subst T look.0 tt)) in
+    let e = range_at c.in-Some.field-0.now c.args.field (ltb→lt c.args.field 21 (subst T look.0 tt)) in
     rw (e.0, e.1, ← look.1, le-leb _ _ c.if-least-figure.true) refl
 
 pub returns-else-least-figure : goal.returns-else-least-figure
 unfolding between
 returns-else-least-figure c =
     let look = c.in-Some.ensures.lookup in
-    let e = range_at c.in-Some.field-0.now c.args.field (ltb→lt c.args.field 20 (subst T look.0 tt)) in
+    let e = range_at c.in-Some.field-0.now c.args.field (ltb→lt c.args.field 21 (subst T look.0 tt)) in
     rw (e.0, e.1, ← look.1, lt-leb _ _ c.if-least-figure.false) refl

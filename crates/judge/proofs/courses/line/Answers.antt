@@ -6,7 +6,7 @@ use Rattle.judge.proofs.courses.line.Goals as goal
 
 pub need-need-requires : goal.need-need-requires
 need-need-requires c = let k = course_in_lem c.args.c c.requires.course_clear in
-    record { h_le_most_height = rw (c.design_head-design.ensures, c.head-h.ensures) (head_in c.args.tank c.requires.tank_clear _ c.args.edge); diameter_in = (tank_in_lem c.args.tank c.requires.tank_clear).diameter; stress_in = k.stress; efficiency_in = k.efficiency }
+    record { h_le_most_height = rw (c.design_head-design.ensures, c.head-h.ensures) (head_in c.args.tank c.requires.tank_clear _ c.args.edge); diameter_in = (tank_in_lem c.args.tank c.requires.tank_clear).diameter; gravity_in = (tank_in_lem c.args.tank c.requires.tank_clear).gravity; stress_in = k.stress; efficiency_in = k.efficiency }
 
 pub required-required-requires : goal.required-required-requires
 required-required-requires c = record { need_le_most_need = rw (c.need-need.ensures, c.design_head-design.ensures, c.head-h.ensures) (need_in c.args.tank c.requires.tank_clear _ c.args.edge c.args.c c.requires.course_clear); allowance_in = (course_in_lem c.args.c c.requires.course_clear).allowance }

@@ -1,28 +1,35 @@
 -- `sheet::reading::read_with_height` meets its contract. Assumes nothing.
-use mathlib.Core.Path.{◌∙◌, ap, sym}
+use mathlib.Core.Path.{◌∙◌, ap, sym, subst}
 use Rattle.entries.specs.Sheet.{empty_sheet}
-use Rattle.fields.proofs.OrderLaws.{passed_on}
-use Rattle.layout.specs.Layout.{version1}
+use Rattle.fields.proofs.OrderLaws.{passed_on, reply_given, reply_refused}
+use Rattle.fields.specs.Order.{first_of}
+use Rattle.layout.specs.Header.{version_in, read_order, Header}
 use Rattle.layout.proofs.HeaderLaws.{header}
 use Rattle.sheet.specs.Steps.{unless, in_turn}
 use Rattle.sheet.specs.Reading.{steps_in, read_in, with_height}
 use Rattle.sheet.proofs.AnswerLaws.{height_clauses}
 use Rattle.sheet.proofs.reading.read_with_height.Goals as goal
 
-pub returns-in_err-header_flaw : goal.returns-in_err-header_flaw
+pub returns-in_err-version : goal.returns-in_err-version
 unfolding read_in
-returns-in_err-header_flaw c =
+returns-in_err-version c =
     let b = c.args.bytes.now in
-    let r = height_clauses b (passed_on _ _ c.from_residual.ensures.1 ∙ ap (λ a. with_height (unless a (in_turn empty_sheet (steps_in version1 b)))) (sym c.in_err-header_flaw.was ∙ c.header_flaw.ensures.value)) in
+    let e = (reply_refused (version_in b) (first_of (read_order b)) _).0 (sym c.version_in.ensures.value ∙ c.in_err-version.was) in
+    let r = height_clauses b (passed_on _ _ c.from_residual.ensures.1 ∙ ap (λ a. with_height (unless a (in_turn empty_sheet (steps_in (version_in b) b)))) (sym e)) in
     record { value = r.0; code = r.1 }
 
 pub read_entries-requires : goal.read_entries-requires
-read_entries-requires c = header c.args.bytes.now (sym c.header_flaw.ensures.value ∙ c.in_ok-header_flaw.was)
+read_entries-requires c =
+    let b = c.args.bytes.now in
+    let g = reply_given (version_in b) (first_of (read_order b)) (sym c.version_in.ensures.value ∙ c.in_ok-version.was) in
+    subst (λ v. Header v b) (sym g.1) (header b g.0)
 
 pub returns : goal.returns
 unfolding read_in
 returns c =
     let b = c.args.bytes.now in
+    let g = reply_given (version_in b) (first_of (read_order b)) (sym c.version_in.ensures.value ∙ c.in_ok-version.was) in
     let r = height_clauses b (c.read_entries.ensures
-    ∙ ap (λ a. with_height (unless a (in_turn empty_sheet (steps_in version1 b)))) (sym c.in_ok-header_flaw.was ∙ c.header_flaw.ensures.value)) in
+    ∙ ap (λ v. with_height (in_turn empty_sheet (steps_in v b))) g.1
+    ∙ ap (λ a. with_height (unless a (in_turn empty_sheet (steps_in (version_in b) b)))) (sym g.0)) in
     record { value = r.0; code = r.1 }
