@@ -28,6 +28,12 @@ def greatest_root(factor, most):
     return n
 
 
+def root_up(square):
+    """The least whole n with n x n at least this whole number."""
+    n = isqrt(square)
+    return n if n * n == square else n + 1
+
+
 # --- Use and verdict ("Each check says that it holds or falls short ...") ------
 
 SIDE_LIMIT = 2**53  # "Both sides stay below 2 to the 53"
@@ -89,3 +95,5 @@ def self_test():
     assert nearest_f64_bits(0, 7) == 0
     assert [rounded_up(-3, 2), rounded_down(-3, 2), rounded_up(3, 2)] == [-1, -2, 2]
     assert [greatest_root(2, most) for most in (0, 1, 2, 7, 8, 9)] == [0, 0, 1, 1, 2, 2]
+    assert [root_up(square) for square in (0, 1, 2, 4, 5, 24, 25, 26)] == [0, 1, 2, 2, 3, 5, 5, 6]
+    assert root_up(10**18) == 10**9 and root_up(10**18 + 1) == 10**9 + 1

@@ -1,6 +1,6 @@
 """Document 01's refusals: their numbers, and the orders in which they are looked for.
 
-Written from both lists of "Refusals" and from "Order", with requests S-1 to S-8 of document 02.
+Written from both lists of "Refusals" and from "Order", with requests S-1 to S-9 of document 02.
 A refusal is its number and its field (0 if it gives none); None stands for no refusal. The orders
 of tank, site, anchors, bytes and writing are where the sheet is: filling_in.py, sheet_bytes.py.
 """
@@ -36,10 +36,12 @@ REFUSALS = {
     36: "no site",
     37: "H above Hs",
     38: "anchors never stated",
-    40: "Ss or S1 above 3,000",
+    40: "Ss or S1 above 3,000; a figure of S-9 outside its range",
     41: "a site class other than A to E",
     42: "a method other than D100 and API 650",
     43: "self-anchored, and its lift is not none",
+    44: "a tank that isn't slender",
+    45: "an earthquake moment above 1,000,000,000",
 }
 FIELD_REFUSAL = 16  # the only one that gives a field
 
@@ -106,7 +108,7 @@ def judge_refusal(method, tank_stated, courses_held, site_stated, anchors_stated
 
 
 def self_test():
-    assert list(REFUSALS) == [*range(11, 20), *range(30, 39), 40, 41, 42, 43]
+    assert list(REFUSALS) == [*range(11, 20), *range(30, 39), *range(40, 46)]
     for speed, refusal in ((59, (16, 7)), (60, None), (150, None), (151, (16, 7))):
         assert standard_site_refusal(speed) == refusal
 

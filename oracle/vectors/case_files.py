@@ -6,7 +6,7 @@ writes them anew. A file starts from an empty sheet, and each question finds the
 above it leave:
 
 clear                               begins anew
-request S-8                         begins anew: what follows came with that request (see below)
+request S-8, request S-9            begins anew: what follows came with that request (see below)
 tank, site, anchors, course ..      the steps, with their figures; `anchors none` is N = 0, and a
                                     tank's gravity may be left out: it is 1,000 then
 read HEX                            the sheet of these bytes is the held one, or the empty one
@@ -15,6 +15,7 @@ judge, uses, compression [METHOD]   1 (D100) or 2 (API 650); 1 where it is left 
 mark HEX                            what the printing program writes for these bytes
 pressure SPEED                      on the standard site (S-4)
 ground CLASS SS S1                  S-2
+moment D H GRAVITY WS XS WR XR AI AC        S-9
 put tank, site or anchors ..        the part, tried by nobody, or `none`, not stated (for 30)
 put slot K width t c s E            a course's slot, numbered from 1
 put count N                         how many slots hold a course
@@ -29,7 +30,7 @@ from functools import cache
 from pathlib import Path
 from typing import Callable, NamedTuple
 
-from model import ground, judging, printing
+from model import ground, judging, printing, slender
 from model.fields import ENTRIES, TABLE, Course
 from model.filling_in import EMPTY, SELF_ANCHORED, Sheet
 from model.refusals import D100, MOST_COURSES, standard_site_refusal
@@ -46,10 +47,11 @@ from vectors.scripts import with_slot
 from vectors.version_1 import sheet_as_bytes
 
 FOLDER = Path(__file__).resolve().parent.parent.parent / "cases"
-NAMES = ("steps", "read", "write", "judge", "marker", "pressure", "compression", "ground")
+NAMES = ("steps", "read", "write", "judge", "marker", "pressure", "compression", "ground",
+         "moment")
 FILL = 200              # the first byte of a lent buffer; the others count up from it
-PRESSURE_LEAF, GROUND_LEAF = 27, 40
-REQUESTS = ("S-8",)     # that have a part of their own in a file
+PRESSURE_LEAF, GROUND_LEAF, SLENDER_LEAF = 27, 40, 41
+REQUESTS = ("S-8", "S-9")       # that have a part of their own in a file
 
 
 class Mistake(Exception):
@@ -301,6 +303,15 @@ def ground_motion(question, sheet):
     return Tried(question, sheet, tuple(reply), leaf=leaf_line(GROUND_LEAF, point))
 
 
+def slender_moment(question, sheet):
+    names = "D H GRAVITY WS XS WR XR AI AC".split()
+    figures = slender.Figures(*figures_in(question, question.words[1:], *names))
+    refusal = slender.refusal_of(figures)
+    reply = refusal_reply(refusal) if refusal is not None \
+        else [f"moment {slender.moment(figures)}"]
+    return Tried(question, sheet, tuple(reply), leaf=leaf_line(SLENDER_LEAF, figures))
+
+
 def put(question, sheet):
     part, *operands = question.words[1:] or [""]
     if part in TABLE and part != "course":
@@ -324,7 +335,7 @@ WORDS: dict[str, Callable] = {
     "clear": clear, "request": request, **dict.fromkeys(TABLE, step), "read": read, "write": write,
     "judge": judge,
     "uses": uses, "compression": compression, "mark": mark, "pressure": pressure,
-    "ground": ground_motion, "put": put,
+    "ground": ground_motion, "moment": slender_moment, "put": put,
 }
 
 # --- Files --------------------------------------------------------------------

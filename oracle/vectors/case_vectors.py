@@ -63,7 +63,7 @@ def outcomes_of(cases):
     return list(outcomes(cases.all_records()))
 
 
-BEFORE, S_8 = map(Cases, ("", *REQUESTS))
+BEFORE, S_8, S_9 = map(Cases, ("", *REQUESTS))
 
 
 # --- Self test ----------------------------------------------------------------
@@ -93,6 +93,9 @@ pressure 105
 request S-8
 tank 14400 28800 11000 250 0 36000 1301
 tank 14400 28800 11000 250 0 36000 1,300
+request S-9
+moment 12,000 12,000 1,000 5,000 7,200 1,000 14,400 200 50
+moment 12,000 12,000 1,000 5,000 7,200 1,000 14,400 200 1,001
 """
 REPLIES = """\
 # The example tank, with a comma
@@ -146,13 +149,18 @@ tank 14400 28800 11000 250 0 36000 1301
     refused 16 20
 tank 14400 28800 11000 250 0 36000 1,300
     ok
+request S-9
+moment 12,000 12,000 1,000 5,000 7,200 1,000 14,400 200 50
+    moment 39920
+moment 12,000 12,000 1,000 5,000 7,200 1,000 14,400 200 1,001
+    refused 40
 """
 MISTAKES = (        # lines, and how the mistake in them is said
     ("\ntonk 1", "line 2: 'tonk' is none of clear, request, tank, site, anchors, course, read, "
-                 "write, judge, uses, compression, mark, pressure, ground, put"),
+                 "write, judge, uses, compression, mark, pressure, ground, moment, put"),
     ("tank 1 2 3 4 5", "line 1: these are 5 figures, not D H W plate allowance Fy gravity"),
     ("tank 1 2 3 4 5 6 7 8", "line 1: these are 8 figures, not D H W plate allowance Fy gravity"),
-    ("request S-9", "line 1: a request is one of S-8"),
+    ("request S-7", "line 1: a request is one of S-8, S-9"),
     ("anchors 6 14,80 8", "line 1: '14,80' is not a whole number"),
     ("anchors 6 4,294,967,296 8", "line 1: 4,294,967,296 is above 4294967295"),
     ("clear\nread 0x00", "line 2: these are no bytes, of two hexadecimal digits each"),
@@ -165,6 +173,7 @@ MISTAKES = (        # lines, and how the mistake in them is said
     ("put", "line 1: tank, site, anchors, slot or count can be put"),
     ("ground CC 240 93", "line 1: a class is one letter"),
     ("pressure", "line 1: these are 0 figures, not SPEED"),
+    ("moment 1 2", "line 1: these are 2 figures, not D H GRAVITY WS XS WR XR AI AC"),
     ("clear all", "line 1: clear stands alone"),
 )
 
@@ -183,7 +192,8 @@ def check_lines():
     assert written_out(tried) == REPLIES, written_out(tried)
     assert written_out(tried_in("steps", REPLIES)) == REPLIES
     assert any(one.sheet == EXAMPLE for one in tried)
-    assert [one.request for one in tried][-3:] == ["S-8"] * 3 and tried[-4].request == ""
+    assert [one.request for one in tried][-6:] == ["S-8"] * 3 + ["S-9"] * 3
+    assert tried[-7].request == ""
     for text, said in MISTAKES:
         assert mistake_in(text) == said, (said, mistake_in(text))
 
@@ -198,6 +208,8 @@ def check_files():
     assert {*BEFORE.group_leaf_lines()} == {"pressure", "ground"}       # as `groups` lists them
     assert not {*BEFORE.group_leaf_lines()} & {*BEFORE.group_records()}
     assert not S_8.group_leaf_lines()
+    assert {*S_9.group_leaf_lines()} == {"moment"}      # and nothing else
+    assert not S_9.group_records() and not S_9.group_sheets()
     for cases in (BEFORE, S_8):
         assert {"judge", "marker"} <= {*cases.group_sheets()}
         assert {"steps", "read", "write", "judge", "compression"} <= {*cases.group_records()}

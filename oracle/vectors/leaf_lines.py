@@ -1,5 +1,5 @@
 """The lines that test_leaves reads, `LEAF A B C D`, and writes. Those of request S-8, some of which
-have five arguments, are leaf_liquor.py's.
+have five arguments, are leaf_liquor.py's; those of S-9, which have nine or one, leaf_slender.py's.
 
 A leaf's points are the documents' figures, the two ends of each range, combined, its edges, and
 random points with a fixed seed; the leaves of S-6 (7, 8 and 53 to 55) take no such ends.
@@ -91,9 +91,11 @@ def answer(line):
 
 
 def check_refusals():
-    """Every refusal of the list with every field: the domain is small enough to be taken whole."""
+    """Every refusal of the list before those of S-9 with every field: the domain is small enough to
+    be taken whole."""
     places, fields = (range(least, greatest + 1) for least, greatest in LEAVES[12].domain)
-    assert len(places) == len(REFUSALS) and len(fields) == 1 + len(FIELD_RANGES)
+    assert tuple(REFUSALS)[places[-1]] == 43
+    assert len(fields) == 1 + len(FIELD_RANGES)
     assert sorted(leaf_points(12)) == list(product(places, fields))
     assert answer("12 20 7 0 0") == "refused 42 0" and answer("12 21 7 0 0") == "refused 43 0"
 

@@ -11,7 +11,6 @@ from model import compression
 from model.arithmetic import greatest_root
 from model.demand_3_liquor import GRAVITY
 from model.fields import FIELD_RANGES, GRAVITY_FIELD
-from model.refusals import REFUSALS
 from model.tank_rules import (
     exact_hoop_need, hoop_need, resistance, times_water, water_on_rim, water_on_rim_cap,
     water_on_rim_root, yield_in_root,
@@ -20,8 +19,8 @@ from vectors import leaf_lines
 from vectors.leaf_edges_compression import MORE_WHOLE_ARGUMENTS, whole_arguments
 from vectors.leaf_lines import add_random_points, inside, leaf_line
 from vectors.leaf_points import (
-    C, D, E, FY, H, HEIGHT, MS, NET, PLATE, S, TB, WT, beside, even_draw, neighbours, no_ends,
-    round_draw, whole_at,
+    C, D, E, FY, H, HEIGHT, MS, NET, PLACES, PLATE, S, TB, WT, beside, even_draw, neighbours,
+    no_ends, round_draw, whole_at,
 )
 from vectors.leaf_table import LEAVES as FIRST_LEAVES, Leaf
 from vectors.leaf_texts import decimal
@@ -151,7 +150,7 @@ def field_20_lines():
     """Of leaves 10 and 12. 0 and the greatest that a u32 holds were asked before."""
     for figure in end_figures(GRAVITY_FIELD)[1:-1]:
         yield leaf_line(10, (GRAVITY_FIELD, figure))
-    for place in range(len(REFUSALS)):
+    for place in range(PLACES[1] + 1):
         yield leaf_line(12, (place, GRAVITY_FIELD))
 
 

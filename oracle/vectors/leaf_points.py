@@ -42,6 +42,7 @@ PULL = (0, 800_000_000_000)                 # moment greatest, B 1, N 6
 A = (1, 2_500)
 PARTS = 10_000                              # of a pound, in which leaves 51 and 52 tell a weight
 WEIGHT_PARTS = (0, PARTS * W[1])
+PLACES = (0, 21)                            # in the list of refusals; leaf_slender.py has later ones
 MAPPED = (0, MOST_MAPPED)                   # Ss or S1, where it is not refused
 CLASSES = tuple(map(ord, ground.CLASSES))
 NET = (1, PLATE[1])                         # a course's plate less its allowance

@@ -12,7 +12,7 @@ from typing import Callable, NamedTuple
 from model import compression
 from model.arithmetic import greatest_root, rounded_down, rounded_up, use_bits
 from model.fields import field_in_range
-from model.refusals import API_650, D100, REFUSALS, refusal_at
+from model.refusals import API_650, D100, refusal_at
 from model.tank_rules import (
     bolt_area, course_head, course_verdict, hoop_need, house_floor, larger_pull, net_pull,
     required_plate, resistance, self_earthquake_verdict, self_wind_verdict, shell_weight_on_rim,
@@ -34,8 +34,8 @@ from vectors.leaf_edges_tank import (
 )
 from vectors.leaf_points import (
     A, AV, B, B_FIELD, BYTE, C, CLASSES, COEFFICIENT, D, E, FY, H, HEIGHT, I, KZ, LEAST_PULL,
-    MAPPED, MOMENT, MS, N, NEED, NET, P, PARTS, PLATE, PULL, REQUIRED, S, SIDE, SIGN, SIZE, T, TB,
-    U32, U64, V, W, WEIGHT_PARTS, WL, WORD, WT, ends, from_one, no_ends,
+    MAPPED, MOMENT, MS, N, NEED, NET, P, PARTS, PLACES, PLATE, PULL, REQUIRED, S, SIDE, SIGN, SIZE,
+    T, TB, U32, U64, V, W, WEIGHT_PARTS, WL, WORD, WT, ends, from_one, no_ends,
 )
 from vectors.leaf_texts import (
     decimal, ground_text, halves, hexadecimal, hoop_head_text, in_parts, refusal_text, signed,
@@ -118,7 +118,7 @@ LEAVES = {
         bolt_edges,
     ),
     12: Leaf(
-        ((0, len(REFUSALS) - 1), (0, max(FIELD_RANGES))),
+        (PLACES, (0, max(FIELD_RANGES))),
         lambda place, field: refusal_text(*refusal_at(place, field)),
         (),
         refusal_edges,

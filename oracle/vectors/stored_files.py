@@ -8,8 +8,8 @@ from model import printing
 from model.filling_in import EXAMPLE
 from vectors import (
     case_files, case_vectors, compression_groups, compression_later_groups, current_sheet_groups,
-    judge_cases, judge_groups, judge_later_groups, leaf_lines, leaf_liquor, marker_groups, records,
-    steps_groups, steps_later_groups,
+    judge_cases, judge_groups, judge_later_groups, leaf_lines, leaf_liquor, leaf_slender,
+    marker_groups, records, steps_groups, steps_later_groups,
 )
 from vectors.start_sheets import EXAMPLE_BYTES
 
@@ -75,17 +75,21 @@ def record_parts():
 
 @cache
 def leaf_groups():
-    """All lines of the leaves; those of the cases that people can read; then those of S-8."""
+    """All lines of the leaves; those of the cases that people can read; those of S-8; those of S-9,
+    and of the cases that came with it."""
     return {"leaves": leaf_lines.all_lines(),
             **{f"cases_{name}": lines
                for name, lines in case_vectors.BEFORE.group_leaf_lines().items()},
-            **{f"liquor_{name}": lines for name, lines in leaf_liquor.group_lines().items()}}
+            **{f"liquor_{name}": lines for name, lines in leaf_liquor.group_lines().items()},
+            **{f"slender_{name}": lines for name, lines in leaf_slender.group_lines().items()},
+            **{f"cases_s_9_{name}": lines
+               for name, lines in case_vectors.S_9.group_leaf_lines().items()}}
 
 
 def leaf_files():
     lines = records.in_turn(leaf_groups())
     return {LEAVES_STDIN: printing.lines_as_bytes(lines),
-            LEAVES_STDOUT: printing.lines_as_bytes(map(leaf_liquor.answer, lines))}
+            LEAVES_STDOUT: printing.lines_as_bytes(map(leaf_slender.answer, lines))}
 
 
 def step_files():

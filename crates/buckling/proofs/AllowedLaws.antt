@@ -12,7 +12,7 @@ use Rattle.exact.proofs.FractionLaws.{at_most_lem, not_at_most, ≤ʳ-trans, ≤
 use Rattle.exact.proofs.QuotientLaws.{rounded_down, rounded_down_only, down_same}
 use Rattle.fields.specs.Range.{In}
 use Rattle.buckling.specs.Bounds.{most_coefficient, most_net}
-use Rattle.buckling.specs.Units.{plate_inches, radius}
+use Rattle.fields.specs.Units.{plate_inches, radius}
 use Rattle.buckling.specs.Coefficient.{modulus, hundred_thousandths}
 use Rattle.buckling.specs.Allowed.{thickness_ratio, elastic_limit, inelastic_limit, elastic, inelastic, plastic, local_buckling, pressure_help, allowed_exact, allowed_of}
 

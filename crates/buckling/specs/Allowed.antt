@@ -3,7 +3,7 @@
 use Rattle.std.specs.Prelude.{cond, ℕ}
 use Rattle.exact.specs.Quotient.{Ratio, whole, plus, down_of}
 use Rattle.exact.specs.Fraction.{◌over◌, times, divided_by, squared, at_most}
-use Rattle.buckling.specs.Units.{plate_inches, radius}
+use Rattle.fields.specs.Units.{plate_inches, radius}
 use Rattle.buckling.specs.Coefficient.{modulus, hundred_thousandths}
 
 -- t / R, the thickness-to-radius ratio

@@ -4,7 +4,7 @@ use Rattle.std.specs.Prelude.{Bool, ℕ, min}
 use Rattle.exact.specs.Quotient.{Ratio, whole, down_of}
 use Rattle.exact.specs.Fraction.{◌over◌, times, divided_by, squared, power, ◌≤ʳ◌, at_most}
 use Rattle.exact.specs.Greatest.{Greatest, greatest_below}
-use Rattle.buckling.specs.Units.{feet, plate_inches, radius}
+use Rattle.fields.specs.Units.{feet, thousandths, plate_inches, radius}
 
 -- the modulus of elasticity E, in psi
 abbrev pub modulus : Ratio
@@ -12,7 +12,7 @@ modulus = whole 29000000
 
 -- P, in psi: "water weighs 0.433 psi per foot of H", and "Water pressure in the compression question is multiplied too", by the gravity
 abbrev pub pressure : ℕ → ℕ → Ratio
-pressure H G = times (times (433 over 1000) (feet H)) (G over 1000)
+pressure H G = times (times (433 over 1000) (feet H)) (thousandths G)
 
 -- the equation's argument, (P / E) (R / t)², exact and, in ten-thousandths, "rounded down"
 unfoldable pub argument_exact : ℕ → ℕ → ℕ → ℕ → Ratio

@@ -1,4 +1,3 @@
-pub mod Units
 pub mod Coefficient
 pub mod Stress
 pub mod Allowed

@@ -3,19 +3,15 @@
 use Rattle.std.specs.Prelude.{ℕ}
 use Rattle.exact.specs.Quotient.{Ratio, whole, plus, up_of}
 use Rattle.exact.specs.Fraction.{◌over◌, times, divided_by, squared}
-use Rattle.buckling.specs.Units.{feet, plate_inches}
+use Rattle.fields.specs.Units.{feet, thousandths, plate_inches, circle}
 
--- π: "355/113 for its circle"
-abbrev pub circle : Ratio
-circle = 355 over 113
-
--- wt, the weight of shell and roof in pounds per foot of shell, "unreduced and unrounded": W / (π D)
+-- wt, the weight of shell and roof in pounds per foot of shell, "unreduced and unrounded": W / (π D), "355/113 for its circle"
 abbrev pub shell_load : ℕ → ℕ → Ratio
 shell_load W D = divided_by (whole W) (times circle (feet D))
 
 -- 1 + 0.4 Av, Av in thousandths of g
 abbrev pub increase : ℕ → Ratio
-increase Av = plus (whole 1) (times (4 over 10) (Av over 1000))
+increase Av = plus (whole 1) (times (4 over 10) (thousandths Av))
 
 -- (wt (1 + 0.4 Av) + 1.273 Ms / D squared) / (12 t), in psi, exact and "rounded once, up to a psi"
 unfoldable pub stress_exact : ℕ → ℕ → ℕ → ℕ → ℕ → Ratio

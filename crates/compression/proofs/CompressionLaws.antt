@@ -15,13 +15,11 @@ use Rattle.lists.proofs.EachLaws.{each_at}
 use Rattle.exact.specs.Quotient.{Ratio, down_of}
 use Rattle.exact.specs.Fraction.{◌≤ʳ◌}
 use Rattle.std.specs.Result.{result_and}
-use Rattle.fields.specs.Order.{Answer, first_of, at, First, clear, codes, answer_code, reply_unless}
+use Rattle.fields.specs.Order.{Answer, first_of, at, First, clear, codes}
 use Rattle.fields.specs.Refusal.{plain}
-use Rattle.fields.specs.declared.refusal.Code.{Code}
 use Rattle.fields.specs.declared.refusal.Refusal.{Refusal}
 use Rattle.fields.specs.declared.refusal.Refusal.TheVariants.{ShellUplift, Unreachable}
-use Rattle.fields.proofs.OrderLaws.{clash, first_then, first_append, first_code_lem, reply_refused, reply_refused_exactly, reply_given_exactly}
-use Rattle.fields.proofs.RefusalLaws.{never_zero}
+use Rattle.fields.proofs.OrderLaws.{clash, first_then, first_append, first_code_lem, reply_refused, reply_code, reply_value, reply_given_holds, reply_refused_exactly, reply_given_exactly}
 use Rattle.stability.specs.Earthquake.{uplift_of}
 use Rattle.rules.specs.Method.{method_number, other_method}
 use Rattle.rules.specs.declared.method.Method.{Method}
@@ -158,14 +156,9 @@ module _ (n : ℕ) (s : Sheet) where
   pub compression_code_lem : compression_code (shell_compression n s) ≡ shell_compression_code n s
   unfolding shell_compression shell_compression_code
   compression_code_lem =
-      go (first_of (compression_order n s)) ∙ ap (λ (p : Code). record { code = p; stresses = cond (eqb p.number 0) v no_stresses }) (first_code_lem (compression_order n s))
-    where
-      v : Stresses
-      v = stresses_of (entries_of s)
-
-      go : (a : Answer) → compression_code (reply_unless a v) ≡ record { code = answer_code a; stresses = cond (eqb (answer_code a).number 0) v no_stresses }
-      go (Ok u) = refl
-      go (Err r) = rw (never_zero r)
+      let order = compression_order n s in
+      let v = stresses_of (entries_of s) in
+      rw (reply_value v no_stresses (first_of order), reply_code v (first_of order), first_code_lem order)
 
 -- any method gives the same reply
 pub method_free : (method other : Method) (s : Sheet) → shell_compression (method_number method) s ≡ shell_compression (method_number other) s
@@ -228,11 +221,11 @@ module _ (n : ℕ) (s : Sheet) where
 
   reply_justified : ReplyJustified (entries_of s) (shell_compression n s)
   unfolding shell_compression
-  reply_justified = go (first_of (compression_order n s)) refl
+  reply_justified =
+      reply_given_holds (stresses_of (entries_of s)) (StressesJustified (entries_of s)) (first_of (compression_order n s)) accepted
     where
-      go : (a : Answer) → first_of (compression_order n s) ≡ a → ReplyJustified (entries_of s) (reply_unless a (stresses_of (entries_of s)))
-      go (Err r) e = tt
-      go (Ok u) e =
+      accepted : first_of (compression_order n s) ≡ Ok tt → StressesJustified (entries_of s) (stresses_of (entries_of s))
+      accepted e =
           let judged-accepted = judged_answer n s ∙ (first_append (judge_order n s) (shell_uplift (entries_of s) ∷ []) e).0 in
           let given = accepted_entries n s refl refl (ap (λ (j : Judgement). j.answer) (sym (judged_completed_lem n s)) ∙ judged-accepted) in
           stresses_justified (entries_of s) (valid s (complete_is s refl given))

@@ -1,11 +1,11 @@
 -- Shell compression at the bottom course: document 02, S-6 and S-8. A sheet and a method's number n; the reply is the stress, the allowed stress and
 -- whether it holds, or one refusal.
 use Rattle.fields.specs.declared.refusal.Refusal.{Refusal}
-use Rattle.std.specs.Prelude.{◌≡◌, Bool, true, false, cond, ◌&&◌, List, [], ◌∷◌, ◌++◌, ℕ, ◌-◌, leb, eqb, get_or, Result, Ok, Err}
+use Rattle.std.specs.Prelude.{◌≡◌, Bool, true, false, cond, ◌&&◌, List, [], ◌∷◌, ◌++◌, ℕ, ◌-◌, leb, eqb, get_or, Result}
 use Rattle.exact.specs.Quotient.{Ratio, whole, AtLeast, AtMost}
 use Rattle.exact.specs.Fraction.{◌over◌, ◌≤ʳ◌}
 use Rattle.std.specs.Result.{result_unwrap_or}
-use Rattle.fields.specs.Order.{Condition, ◌when◌, first_of, reply_unless, answer_code, first_code}
+use Rattle.fields.specs.Order.{Condition, ◌when◌, first_of, reply_unless, Given, answer_code, first_code}
 use Rattle.fields.specs.declared.refusal.Code.{Code}
 use Rattle.fields.specs.declared.refusal.Refusal.TheVariants.{ShellUplift}
 use Rattle.stability.specs.Earthquake.{uplift_of}
@@ -122,5 +122,4 @@ pub record StressesJustified (e : Entries) (v : Stresses) : Type 0 where
   pub held : v.holds ≡ leb v.stress v.allowed
 
 abbrev pub ReplyJustified : Entries → Result Stresses Refusal → Type 0
-ReplyJustified e (Ok v) = StressesJustified e v
-ReplyJustified e (Err r) = Unit {0}
+ReplyJustified e = Given (StressesJustified e)

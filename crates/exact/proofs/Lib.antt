@@ -3,6 +3,7 @@ pub mod QuotientLaws
 pub mod SignedLaws
 pub mod GreatestLaws
 pub mod RootLaws
+pub mod SquaresLaws
 pub mod RatioLaws
 pub mod FloatLaws
 pub mod FractionLaws

@@ -10,12 +10,12 @@ use native.Mathlib.Omega.{arith}
 use lib.Dec.{T, eqb}
 use lib.ListN.{length}
 use Rattle.std.specs.Prelude.{Result, Ok, Err, is_ok, IsErrAnd}
-use Rattle.std.specs.Result.{result_and}
+use Rattle.std.specs.Result.{result_and, result_unwrap_or}
 use Rattle.fields.specs.Refusal.{plain, code_of}
 use Rattle.fields.specs.declared.refusal.Code.{Code}
 use Rattle.fields.specs.declared.refusal.Refusal.{Refusal}
 use Rattle.fields.proofs.RefusalLaws.{never_zero}
-use Rattle.fields.specs.Order.{Answer, Condition, first_of, reply_unless, at, First, accepts, clear, answer_code, first_code}
+use Rattle.fields.specs.Order.{Answer, Condition, first_of, reply_unless, Given, at, First, accepts, clear, answer_code, first_code}
 
 -- a reply is not both
 pub clash : {A X : Type 0} {v : A} {r : Refusal} → ◌≡◌ {A = Result A Refusal} (Err r) (Ok v) → X
@@ -174,6 +174,15 @@ module _ {A : Type 0} (v : A) where
   pub reply_coded : (cs : List Condition) {y : Result A Refusal} → y ≡ reply_unless (first_of cs) v
       → (y ≡ reply_unless (first_of cs) v) × (answer_code y ≡ first_code cs)
   reply_coded cs e = (e, ap answer_code e ∙ reply_code (first_of cs) ∙ first_code_lem cs)
+
+  -- its value, or another where it is refused, by the code; and a promise that holds of the value where it is accepted
+  pub reply_value : (none : A) (a : Answer) → result_unwrap_or (reply_unless a v) none ≡ cond (eqb (answer_code a).number 0) v none
+  reply_value none (Ok u) = refl
+  reply_value none (Err r) = rw (never_zero r)
+
+  pub reply_given_holds : (promise : A → Type 0) (a : Answer) → (a ≡ Ok tt → promise v) → Given promise (reply_unless a v)
+  reply_given_holds promise (Ok u) f = f refl
+  reply_given_holds promise (Err r) f = tt
 
   -- each refusal exactly under its condition with none before it,
   pub reply_refused_exactly : (cs : List Condition) (r : Refusal) → (reply_unless (first_of cs) v ≡ Err r) ↔ First cs r

@@ -4,14 +4,14 @@ use mathlib.Core.Path.{◌≡◌, refl, sym, ap, ◌∙◌, subst}
 use mathlib.Core.Bool.{Bool, true, false, not, ◌&&◌, ◌||◌}
 use mathlib.Core.List.{[], ◌∷◌, map}
 use mathlib.Core.Logic.{◌⊎◌, inl, inr}
-use Prim.Native.Nat.{ℕ, zero, suc, ◌≤◌, ◌<◌}
+use Prim.Native.Nat.{ℕ, zero, suc, ◌≤◌, ◌<◌, zero-le}
 use native.Mathlib.Nat.{lt_of_not-le, le_of_suc-le-suc}
 use native.Mathlib.Decide.{dec_le}
 use native.Mathlib.Omega.{arith}
 use lib.Dec.{T, leb, eqb, leb→le, eqb→eq}
 use lib.ListN.{get_or-eq_default}
 use mir.Facts.{and_yes, or_yes}
-use borrow.Author.Tests.{le-leb, lt-leb, ne_eqb}
+use borrow.Author.Tests.{leb-true, le-leb, lt-leb, ne_eqb}
 use Rattle.exact.proofs.Table.{at_each}
 use Rattle.fields.specs.Range.{Range, ranges, range, ◌to◌, between, within, In}
 
@@ -86,6 +86,14 @@ within_none k x e z = rw (e, z)
 -- a figure that is in the range of a field other than N is between its ends
 pub in_of_within : (k x : ℕ) → (k ≡ 12 → ⊥) → within (range k) x ≡ true → In k x
 in_of_within k x h e = in_of_between k x (subst T (sym (within_plain k x h ∙ e)) tt)
+
+-- a range from 0 is one test
+pub within_up_to : (n x : ℕ) → within (0 to n) x ≡ leb x n
+unfolding within between
+within_up_to n x = rw (le-leb 0 x zero-le)
+
+pub most_of_within : (n x : ℕ) → within (0 to n) x ≡ true → x ≤ n
+most_of_within n x e = leb-true x n (sym (within_up_to n x) ∙ e)
 
 -- Field 20 at either end and one past it: bounds alone would let another end through, in definition and code alike.
 pub gravity_ends : map (within (range 20)) (999 ∷ 1000 ∷ 1300 ∷ 1301 ∷ []) ≡ false ∷ true ∷ true ∷ false ∷ []

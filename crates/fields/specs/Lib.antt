@@ -1,4 +1,5 @@
 pub mod Range
+pub mod Units
 pub mod Bolt
 pub mod Refusal
 pub mod Order

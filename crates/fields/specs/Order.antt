@@ -28,6 +28,11 @@ first_of (c ∷ cs) = cond c.applies (Err c.refusal) (first_of cs)
 abbrev pub reply_unless : {A : Type 0} → Answer → A → Result A Refusal
 reply_unless a v = result_and a (Ok v)
 
+-- a promise of the value of a reply, where it has one
+abbrev pub Given : {A : Type 0} → (A → Type 0) → Result A Refusal → Type 0
+Given promise (Ok v) = promise v
+Given promise (Err r) = Unit {0}
+
 -- The law of every order (`first_exactly`): the answer is the refusal r exactly where some place of the order has r, its condition
 -- applies, and none before it does.
 abbrev pub at : List Condition → ℕ → Condition

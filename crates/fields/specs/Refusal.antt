@@ -3,7 +3,7 @@
 use Rattle.std.specs.Prelude.{ℕ, List, ◌++◌, eqb, cond, codes, decimal}
 use Rattle.fields.specs.declared.refusal.Code.{Code}
 use Rattle.fields.specs.declared.refusal.Refusal.{Refusal}
-use Rattle.fields.specs.declared.refusal.Refusal.TheVariants.{TooFewBytes, TooManyBytes, BadLength, BadVersion, BadCount, OutOfRange, AllowanceNotBelowPlate, BadAnchors, BufferTooShort, Unreachable, TankStated, NoTank, CoursesFull, ShellTooHigh, NoCourse, NoSite, WaterAboveShell, AnchorsUnstated, FigureOutOfRange, BadSiteClass, BadMethod, ShellUplift}
+use Rattle.fields.specs.declared.refusal.Refusal.TheVariants.{TooFewBytes, TooManyBytes, BadLength, BadVersion, BadCount, OutOfRange, AllowanceNotBelowPlate, BadAnchors, BufferTooShort, Unreachable, TankStated, NoTank, CoursesFull, ShellTooHigh, NoCourse, NoSite, WaterAboveShell, AnchorsUnstated, FigureOutOfRange, BadSiteClass, BadMethod, ShellUplift, NotSlender, MomentTooLarge}
 
 -- the number alone
 abbrev pub plain : ℕ → Code
@@ -32,6 +32,8 @@ code_of FigureOutOfRange = plain 40
 code_of BadSiteClass = plain 41
 code_of BadMethod = plain 42
 code_of ShellUplift = plain 43
+code_of NotSlender = plain 44
+code_of MomentTooLarge = plain 45
 
 -- how it is printed: document 01, "The example tank", "`refused`, a blank, the number, and for 16 a blank and the field"
 abbrev pub printed_code : Code → List ℕ

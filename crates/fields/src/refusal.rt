@@ -1,5 +1,5 @@
 // The refusals (document 01, "Refusals that come from the input" and "from the state"; document 02: 38 of S-1,
-// 40 and 41 of S-2, 42 of S-3, 43 of S-6).
+// 40 and 41 of S-2, 42 of S-3, 43 of S-6, 44 and 45 of S-9).
 ghost use Rattle.std.specs.Prelude.{◌≡◌, Some};
 ghost use Rattle.fields.specs.Refusal.{code_of, plain, printed_code};
 
@@ -32,6 +32,8 @@ pub enum Refusal {
     BadSiteClass,
     BadMethod,
     ShellUplift,
+    NotSlender,
+    MomentTooLarge,
 }
 
 // A refusal as the documents have it: its number, and the field that it gives, or 0 where it gives none (no Option: the
@@ -76,6 +78,8 @@ impl Refusal {
             Refusal::BadSiteClass => plain(41),
             Refusal::BadMethod => plain(42),
             Refusal::ShellUplift => plain(43),
+            Refusal::NotSlender => plain(44),
+            Refusal::MomentTooLarge => plain(45),
         }
     }
 }

@@ -2,25 +2,23 @@
 -- Assumes nothing.
 use Rattle.std.specs.Prelude.{Result, Ok, Err}
 use mathlib.Core.Path.{◌≡◌, refl, sym, ap, ◌∙◌, subst}
-use mathlib.Core.Bool.{Bool, false, cond, true}
+use mathlib.Core.Bool.{Bool, false, true}
 use mathlib.Core.List.{[], ◌∷◌}
 use mathlib.Core.Logic.{◌↔◌}
 use Prim.Native.Nat.{ℕ, suc, ◌+◌, ◌-◌, ◌*◌, ◌/◌, ◌≤◌, ◌<◌}
 use native.Mathlib.Nat.{mul-div_cancel}
 use native.Mathlib.Omega.{arith}
-use lib.Dec.{T, leb, ltb, eqb, leb→le}
+use lib.Dec.{T, leb, ltb, leb→le}
 use lib.ListN.{length}
 use borrow.Author.Tests.{leb-true, ltb-false, not-false, lt-ltb, le-ltb}
 use Rattle.lists.proofs.BoolLaws.{both_hold, both_fail}
 use Rattle.exact.proofs.Table.{every, at_each}
 use Rattle.exact.proofs.QuotientLaws.{up_least, rounded_up}
 use Rattle.fields.specs.declared.refusal.Refusal.TheVariants.{FigureOutOfRange, BadSiteClass}
-use Rattle.fields.specs.Order.{Answer, first_of, answer_code, codes, at, First, reply_unless}
+use Rattle.fields.specs.Order.{first_of, codes, at, First}
 use Rattle.fields.specs.Refusal.{plain}
-use Rattle.fields.specs.declared.refusal.Code.{Code}
 use Rattle.fields.specs.declared.refusal.Refusal.{Refusal}
-use Rattle.fields.proofs.OrderLaws.{first_cons, first_code_lem, reply_refused_exactly, reply_given_exactly}
-use Rattle.fields.proofs.RefusalLaws.{never_zero}
+use Rattle.fields.proofs.OrderLaws.{first_cons, first_code_lem, reply_code, reply_value, reply_given_holds, reply_refused_exactly, reply_given_exactly}
 use Rattle.ground.specs.Chart.{Chart, fa, fv, row_of, interpolated, coefficient_of}
 use Rattle.std.proofs.lemmas.Result.{MatchResult-at_ok, MatchResult-at_err}
 use Rattle.ground.specs.declared.motion.DesignValues.{DesignValues}
@@ -132,20 +130,17 @@ module _ (class Ss S1 : ℕ) where
 
   motion_code_lem : motion_code (ground_motion class Ss S1) ≡ ground_motion_code class Ss S1
   unfolding ground_motion ground_motion_code
-  motion_code_lem = go (first_of (motion_order class Ss S1)) (first_code_lem (motion_order class Ss S1))
-    where
-      go : (a : Answer) {p : Code} → answer_code a ≡ p
-          → motion_code (reply_unless a (values_of class Ss S1)) ≡ record { code = p; values = cond (eqb p.number 0) (values_of class Ss S1) no_values }
-      go (Ok u) e = rw (← e)
-      go (Err r) e = rw (← e, never_zero r)
+  motion_code_lem =
+      let order = motion_order class Ss S1 in
+      let v = values_of class Ss S1 in
+      rw (reply_value v no_values (first_of order), reply_code v (first_of order), first_code_lem order)
 
   reply_justified : ReplyJustified class Ss S1 (ground_motion class Ss S1)
   unfolding ground_motion
-  reply_justified = go (first_of (motion_order class Ss S1)) refl
+  reply_justified = reply_given_holds (values_of class Ss S1) (ValuesJustified class Ss S1) (first_of (motion_order class Ss S1)) accepted
     where
-      go : (a : Answer) → first_of (motion_order class Ss S1) ≡ a → ReplyJustified class Ss S1 (reply_unless a (values_of class Ss S1))
-      go (Err r) e = tt
-      go (Ok u) e =
+      accepted : first_of (motion_order class Ss S1) ≡ Ok tt → ValuesJustified class Ss S1 (values_of class Ss S1)
+      accepted e =
           let h = first_cons (other_class class) (too_large Ss S1 ∷ []) e in
           let known = both_hold (leb 65 class) (leb class 69) (not-false (is_class class) h.0) in
           let mapped = both_fail (ltb most_mapped Ss) (ltb most_mapped S1) (first_cons (too_large Ss S1) [] h.1).0 in

@@ -1,9 +1,9 @@
 -- Ground motion from the map values: document 02, S-2. Ss and S1 in thousandths of g, the site class by its capital letter.
 use Rattle.fields.specs.declared.refusal.Refusal.{Refusal}
-use Rattle.std.specs.Prelude.{◌≡◌, not, ◌||◌, cond, List, [], ◌∷◌, ℕ, ◌*◌, ◌≤◌, ltb, eqb, Result, Ok, Err}
+use Rattle.std.specs.Prelude.{◌≡◌, not, ◌||◌, cond, List, [], ◌∷◌, ℕ, ◌*◌, ◌≤◌, ltb, eqb, Result}
 use Rattle.exact.specs.Quotient.{Ratio, down_of, up_of, whole, AtLeast}
 use Rattle.std.specs.Result.{result_unwrap_or}
-use Rattle.fields.specs.Order.{Condition, ◌when◌, first_of, reply_unless, answer_code, first_code}
+use Rattle.fields.specs.Order.{Condition, ◌when◌, first_of, reply_unless, Given, answer_code, first_code}
 use Rattle.fields.specs.Range.{In}
 use Rattle.fields.specs.declared.refusal.Code.{Code}
 use Rattle.fields.specs.declared.refusal.Refusal.TheVariants.{FigureOutOfRange, BadSiteClass}
@@ -103,5 +103,4 @@ pub record ValuesJustified (class Ss S1 : ℕ) (v : DesignValues) : Type 0 where
   pub vertical_in_range : In 10 v.vertical
 
 abbrev pub ReplyJustified : ℕ → ℕ → ℕ → Result DesignValues Refusal → Type 0
-ReplyJustified class Ss S1 (Ok v) = ValuesJustified class Ss S1 v
-ReplyJustified class Ss S1 (Err r) = Unit {0}
+ReplyJustified class Ss S1 = Given (ValuesJustified class Ss S1)

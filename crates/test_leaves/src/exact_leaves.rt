@@ -32,6 +32,7 @@ pub(crate) fn answer<W: Write>(out: &mut W, leaf: u64, arguments: [u64; 4]) -> i
             let first = exact::up(product(a, b), divisor(c));
             print::wide(out, exact::up(first, divisor(d)))
         }
+        9 => print::value(out, exact::root_up(a)),
         _ => print::out(out),
     }
 }

@@ -43,6 +43,8 @@ fn refusal(place: u64, field: u32) -> Refusal {
         18 => Refusal::FigureOutOfRange,
         19 => Refusal::BadSiteClass,
         20 => Refusal::BadMethod,
-        _ => Refusal::ShellUplift,
+        21 => Refusal::ShellUplift,
+        22 => Refusal::NotSlender,
+        _ => Refusal::MomentTooLarge,
     }
 }

@@ -3,7 +3,7 @@
 -- (S-8); and, by its rule, refusals.
 use Rattle.std.specs.Prelude.{List, [], ◌∷◌, ◌++◌, ℕ}
 use Rattle.fields.specs.declared.refusal.Refusal.{Refusal}
-use Rattle.fields.specs.declared.refusal.Refusal.TheVariants.{TooFewBytes, TooManyBytes, BadLength, BadVersion, BadCount, OutOfRange, AllowanceNotBelowPlate, BadAnchors, BufferTooShort, Unreachable, TankStated, NoTank, CoursesFull, ShellTooHigh, NoCourse, NoSite, WaterAboveShell, AnchorsUnstated, FigureOutOfRange, BadSiteClass, BadMethod, ShellUplift}
+use Rattle.fields.specs.declared.refusal.Refusal.TheVariants.{TooFewBytes, TooManyBytes, BadLength, BadVersion, BadCount, OutOfRange, AllowanceNotBelowPlate, BadAnchors, BufferTooShort, Unreachable, TankStated, NoTank, CoursesFull, ShellTooHigh, NoCourse, NoSite, WaterAboveShell, AnchorsUnstated, FigureOutOfRange, BadSiteClass, BadMethod, ShellUplift, NotSlender, MomentTooLarge}
 use Rattle.lists.specs.Ascii.{ascii}
 use Rattle.entries.specs.Sheet.{no_anchors}
 use Rattle.entries.specs.declared.sheet.Sheet.{Sheet}
@@ -74,6 +74,8 @@ refusals =
     ∷ BadSiteClass
     ∷ BadMethod
     ∷ ShellUplift
+    ∷ NotSlender
+    ∷ MomentTooLarge
     ∷ []
 
 abbrev pub refusal_texts : List (List ℕ)
@@ -102,4 +104,6 @@ refusal_texts =
     ∷ ascii "refused 41\n"
     ∷ ascii "refused 42\n"
     ∷ ascii "refused 43\n"
+    ∷ ascii "refused 44\n"
+    ∷ ascii "refused 45\n"
     ∷ []

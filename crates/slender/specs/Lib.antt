@@ -1,0 +1,5 @@
+pub mod Weights
+pub mod Moments
+pub mod Question
+pub mod Bounds
+pub mod Cases
