@@ -8,6 +8,7 @@ use Rattle.exact.specs.Quotient.{Ratio, whole, plus, AtLeast, up_of}
 use Rattle.exact.specs.Fraction.{times, ◌≤ʳ◌}
 use Rattle.exact.specs.Root.{LeastRoot, AtLeastRoot}
 use Rattle.exact.proofs.RootLaws.{root_up_is}
+use Rattle.exact.proofs.SquaresLaws.{root_of_rounded}
 use Rattle.exact.proofs.QuotientLaws.{rounded_up, up_least, up_same}
 use Rattle.exact.proofs.FractionLaws.{≤ʳ-refl, ≤ʳ-trans, times_le, plus_le}
 use Rattle.fields.specs.Units.{thousandths}
@@ -18,7 +19,6 @@ use Rattle.slender.specs.Weights.{impulsive_exact, impulsive_weight, impulsive_h
 use Rattle.slender.specs.Moments.{load_moment, impulsive_with, impulsive_moment, convective_with, convective_moment, moments_squared, moment_of, unrounded_square}
 use Rattle.slender.specs.Question.{thousandths_of_g, margin}
 use Rattle.slender.specs.Bounds.{Slender, TankIn, AccelerationsIn, most_impulsive_moment, most_convective_moment}
-use Rattle.exact.proofs.SquaresLaws.{root_of_rounded}
 use Rattle.slender.proofs.WeightLaws.{level_above, impulsive_above, impulsive_most, impulsive_rounded, convective_above, convective_most, convective_rounded}
 
 -- A figure g that is at most e above h, rounded up: it is at least h, and less than one more than e above it.

@@ -1,5 +1,5 @@
 -- What pins the definitions at literal figures: questions with their answers, each range at its ends and past them, and the margin.
-use Rattle.std.specs.Prelude.{List, [], ◌∷◌, ℕ, suc, ◌*◌}
+use Rattle.std.specs.Prelude.{◌≡◌, List, [], ◌∷◌, map, ℕ, suc, ◌*◌, ◌≤◌, Ok}
 use Rattle.exact.specs.Quotient.{whole}
 use Rattle.exact.specs.Fraction.{◌<ʳ◌}
 use Rattle.exact.specs.Root.{AtLeastRoot}
@@ -7,7 +7,7 @@ use Rattle.fields.specs.Refusal.{plain}
 use Rattle.slender.specs.declared.tank.SlenderTank.{SlenderTank}
 use Rattle.slender.specs.declared.tank.Accelerations.{Accelerations}
 use Rattle.slender.specs.Moments.{unrounded_square}
-use Rattle.slender.specs.Question.{MomentCode, moment_code, earthquake_moment, margin}
+use Rattle.slender.specs.Question.{MomentCode, moment_code, earthquake_moment, margin, ReplyJustified}
 
 -- a question: D, H and gravity; shell and roof, each by weight and height; Ai, Ac
 pub record Question : Type 0 where
@@ -32,6 +32,9 @@ answered q = moment_code (earthquake_moment q.tank q.ground)
 pub record MomentCase : Type 0 where
   pub asked : Question
   pub answer : MomentCode
+
+abbrev pub Answered : List MomentCase → Type 0
+Answered cases = map (λ (q : MomentCase). answered q.asked) cases ≡ map (λ (q : MomentCase). q.answer) cases
 
 infix 20 ◌gives◌
 abbrev pub ◌gives◌ : Question → ℕ → MomentCase
@@ -124,3 +127,7 @@ pub record UnroundedBetween (q : Question) (k : ℕ) : Type 0 where
 pub record UnroundedPinned : Type 0 where
   pub impulsive : UnroundedBetween impulsive_far 20407399
   pub convective : UnroundedBetween convective_far 197723394
+
+-- What the clause of the contract alone comes to for the second of these: the moment is above 197,723,394, and at most 100 above that.
+abbrev pub PromisedFar : Type 0
+PromisedFar = (M : ℕ) → ReplyJustified convective_far.tank convective_far.ground (Ok M) → (197723395 ≤ M) × (M ≤ 197723494)

@@ -8,7 +8,7 @@ ghost use Rattle.slender.specs.Bounds.{Slender, LoadIn, TankIn, AccelerationsIn,
 use crate::tank::{Accelerations, Contents, Load, SlenderTank};
 use crate::weights;
 
-// Ms. It is at most 1,877,447,751, so the cast is whole.
+// Ms. It is below 2^32 (`moment_fits`), so the cast is whole.
 pub(crate) fn earthquake(tank: SlenderTank, ground: Accelerations) -> u32
     requires tank_in { TankIn tank }
     requires accelerations_in { AccelerationsIn ground }
