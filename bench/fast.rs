@@ -98,7 +98,7 @@ fn report(bytes: &[u8], mut at: Place) -> Result<Place, Refusal> {
     let (site, anchors) = (figures(&bytes[tail..]), figures(&bytes[tail + 20..]));
     rules::tank(tank)?;
     rules::site(site)?;
-    rules::anchors(tank[0], anchors)?;
+    rules::anchors(tank[0], anchors, number)?;
     let [d, h, w, plate, allowance, fy, g] = tank.map(u64::from);
     let [v, kz, i, av, ms] = site.map(u64::from);
     let mut sound = true;

@@ -61,7 +61,7 @@ fn read(bytes: &[u8]) -> Result<Sheet, Refusal> {
     };
     rules::tank(sheet.tank)?;
     rules::site(sheet.site)?;
-    rules::anchors(sheet.tank[0], sheet.anchors)?;
+    rules::anchors(sheet.tank[0], sheet.anchors, number)?;
     for part in bytes[site + 33..].chunks(20) {
         let course = figures(part);
         rules::course(course)?;

@@ -24,18 +24,18 @@ from model import (
 )
 from vectors import (
     case_files, case_vectors, compression_groups, compression_later_groups, current_sheet_groups,
-    figure_lines, judge_groups, judge_later_groups, leaf_lines, leaf_liquor, leaf_slender,
-    liquor_points, marker_groups, marker_tries, need_points, steps_groups, steps_later_groups,
-    stored_files,
+    figure_lines, judge_groups, judge_later_groups, leaf_lines, leaf_liquor, leaf_size_6,
+    leaf_slender, liquor_points, marker_groups, marker_tries, need_points, steps_groups,
+    steps_later_groups, steps_size_6_groups, stored_files,
 )
 
 ROOT = Path(__file__).resolve().parent.parent
 QUICK = (fields, refusals, arithmetic, tank_rules, as_printed, ground, filling_in, sheet_bytes,
          judging, demand_3, demand_3_liquor, compression, slender, printing, need_points,
          liquor_points, figure_lines, marker_tries)
-VECTORS = (case_vectors, leaf_lines, leaf_liquor, leaf_slender, steps_groups, judge_groups,
-           current_sheet_groups, compression_groups, judge_later_groups, steps_later_groups,
-           compression_later_groups, marker_groups)
+VECTORS = (case_vectors, leaf_lines, leaf_liquor, leaf_slender, leaf_size_6, steps_groups,
+           judge_groups, current_sheet_groups, compression_groups, judge_later_groups,
+           steps_later_groups, compression_later_groups, steps_size_6_groups, marker_groups)
 
 # --- make, check and groups ---------------------------------------------------
 

@@ -1,6 +1,6 @@
 """Document 01's refusals: their numbers, and the orders in which they are looked for.
 
-Written from both lists of "Refusals" and from "Order", with requests S-1 to S-9 of document 02.
+Written from both lists of "Refusals" and from "Order", with requests S-1 to S-10 of document 02.
 A refusal is its number and its field (0 if it gives none); None stands for no refusal. The orders
 of tank, site, anchors, bytes and writing are where the sheet is: filling_in.py, sheet_bytes.py.
 """
@@ -42,6 +42,7 @@ REFUSALS = {
     43: "self-anchored, and its lift is not none",
     44: "a tank that isn't slender",
     45: "an earthquake moment above 1,000,000,000",
+    39: "size 6, stated, read in version 2 or written",     # S-10; last, as leaf 12 counts places
 }
 FIELD_REFUSAL = 16  # the only one that gives a field
 
@@ -108,7 +109,7 @@ def judge_refusal(method, tank_stated, courses_held, site_stated, anchors_stated
 
 
 def self_test():
-    assert list(REFUSALS) == [*range(11, 20), *range(30, 39), *range(40, 46)]
+    assert list(REFUSALS) == [*range(11, 20), *range(30, 39), *range(40, 46), 39]
     for speed, refusal in ((59, (16, 7)), (60, None), (150, None), (151, (16, 7))):
         assert standard_site_refusal(speed) == refusal
 

@@ -1,8 +1,9 @@
 """The sheet as bytes, both ways: where each field's bytes are, reading and writing.
 
-Written from document 01's "Bytes", "Order" and the refusals there, with request S-8 of document 02:
-a version has its own layout, both are read, and version 2 alone is written. Every place comes from
-the table of fields, so that an inserted field moves them all.
+Written from document 01's "Bytes", "Order" and the refusals there, with two requests of document
+02. S-8: a version has its own layout, both are read, and version 2 alone is written. S-10: size 6
+is read in version 1 alone, and not written. Every place comes from the table of fields, so that an
+inserted field moves them all.
 """
 
 import struct
@@ -10,7 +11,8 @@ from typing import NamedTuple
 
 from model.fields import COURSE_FIELDS, GRAVITY_FIELD, HEAD_FIELDS, Course
 from model.filling_in import (
-    ANCHORS, COURSE, EMPTY, EXAMPLE, SELF_ANCHORED, SITE, TANK, Answer, left_by_a_run, next_in_run,
+    ANCHORS, ANCHORS_IN_VERSION_1, COURSE, EMPTY, EXAMPLE, SELF_ANCHORED, SITE, TANK, Answer,
+    has_size_6, left_by_a_run, read_in_turn, version_1_of,
 )
 from model.refusals import MOST_COURSES
 
@@ -89,7 +91,7 @@ class Layout(NamedTuple):
         return bytes(changed)
 
 
-# Version 1 is read and written by nothing. A request may come to speak of it by itself.
+# Version 1 is read and written by nothing. S-10 speaks of it by itself.
 VERSION_1 = Layout(1, tuple(field for field in HEAD_FIELDS if field != GRAVITY_FIELD))
 VERSION_2 = Layout(2, HEAD_FIELDS)      # S-8: "has this field straight after field 6"
 LAYOUTS = (VERSION_1, VERSION_2)
@@ -133,11 +135,13 @@ def bytes_refusal(content):
 
 def entries_in(layout, content):
     """Tank, site, anchors and the courses in turn. S-8: "Version 1 is still read, as gravity
-    1,000", which is what a tank has if nothing is said of it."""
+    1,000", which is what a tank has if nothing is said of it; S-10: and with size 6."""
     in_head = bytes_as_figures(content[FIRST_FIELD_AT:layout.count_at()])
     figures = dict(zip(layout.head_fields, in_head, strict=True))
+    in_version = {ANCHORS: ANCHORS_IN_VERSION_1} if layout == VERSION_1 else {}
     for step in ONCE_STEPS:
-        yield step, step.entry(*(figures[field] for field in step.fields if field in figures))
+        entry = step.entry(*(figures[field] for field in step.fields if field in figures))
+        yield in_version.get(step, step), entry
     for start in range(layout.head_bytes(), len(content), COURSE_BYTES):
         yield COURSE, Course._make(bytes_as_figures(content[start:start + COURSE_BYTES]))
 
@@ -148,12 +152,7 @@ def read(content):
     if refusal is not None:
         return Answer(refusal, EMPTY)
     layout, _n = by_length(length_in(content))
-    sheet = EMPTY
-    for step, entry in entries_in(layout, content):
-        refusal, sheet = next_in_run(sheet, step, entry)
-        if refusal is not None:
-            return Answer(refusal, EMPTY)
-    return Answer(None, sheet)
+    return read_in_turn(entries_in(layout, content))
 
 
 # --- Writing ------------------------------------------------------------------
@@ -166,7 +165,7 @@ class Written(NamedTuple):
 
 
 def write_refusal(sheet, size):
-    """Order: 30, 32, 35, 36, 38, 19; S-8: "19 by the new size"."""
+    """Order: 30, 32, 35, 36, 38, 39, 19; S-8: "19 by the new size"."""
     if not left_by_a_run(sheet):
         return 30, 0
     if sheet.tank is None:
@@ -177,6 +176,8 @@ def write_refusal(sheet, size):
         return 36, 0
     if sheet.anchors is None:
         return 38, 0
+    if has_size_6(sheet.anchors):
+        return 39, 0
     if size < VERSION_2.bytes_with(sheet.count):
         return 19, 0
     return None
@@ -253,8 +254,26 @@ def check_versions():
             assert read(content).sheet.tank == EXAMPLE.tank._replace(gravity=gravity)
 
 
+def check_size_6():
+    """Read in version 1, not in version 2, where it comes after 18 and before the courses; not
+    written, whatever the room. The steps that reading goes through are those of a run."""
+    size_6 = EXAMPLE._replace(anchors=EXAMPLE.anchors._replace(d=6))
+    first, second = (layout.sheet_as_bytes(size_6) for layout in LAYOUTS)
+    assert read(first) == (None, size_6) and read(second) == ((39, 0), EMPTY)
+    assert list(entries_in(VERSION_1, first)) == version_1_of(size_6)
+    for field, figure, refusal in ((13, 14_399, (18, 0)), (12, 0, (18, 0)), (12, 5, (16, 12)),
+                                   (11, 1_000_000_001, (16, 11)), (15, 1_199, (39, 0)),
+                                   (14, 7, None)):
+        assert read(VERSION_2.with_field_bytes(second, field, figure)).refusal == refusal
+    for size in (0, 119, 123, 124, 200):
+        assert write(size_6, bytes(size)) == ((39, 0), 0, bytes(size))
+    for sheet, refusal in ((size_6._replace(site=None), (30, 0)), (EMPTY, (32, 0))):
+        assert write(sheet, b"") == (refusal, 0, b"")
+
+
 def self_test():
     check_versions()
+    check_size_6()
     whole = VERSION_2.bytes_with(3)
     content = VERSION_2.sheet_as_bytes(EXAMPLE)
     lent = bytes(range(200))

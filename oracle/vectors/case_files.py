@@ -6,7 +6,7 @@ writes them anew. A file starts from an empty sheet, and each question finds the
 above it leave:
 
 clear                               begins anew
-request S-8, request S-9            begins anew: what follows came with that request (see below)
+request S-8, S-9 or S-10            begins anew: what follows came with that request (see below)
 tank, site, anchors, course ..      the steps, with their figures; `anchors none` is N = 0, and a
                                     tank's gravity may be left out: it is 1,000 then
 read HEX                            the sheet of these bytes is the held one, or the empty one
@@ -51,7 +51,7 @@ NAMES = ("steps", "read", "write", "judge", "marker", "pressure", "compression",
          "moment")
 FILL = 200              # the first byte of a lent buffer; the others count up from it
 PRESSURE_LEAF, GROUND_LEAF, SLENDER_LEAF = 27, 40, 41
-REQUESTS = ("S-8", "S-9")       # that have a part of their own in a file
+REQUESTS = ("S-8", "S-9", "S-10")       # that have a part of their own in a file
 
 
 class Mistake(Exception):
@@ -262,9 +262,9 @@ def write(question, sheet):
 
 def judge(question, sheet):
     """What can be written can be handed in as bytes too, which D100 is for: of version 1, if its
-    gravity is that one's."""
+    gravity is that one's. Size 6 is in bytes of version 1 alone (S-10)."""
     method = one_at_most(question, D100)
-    complete = method == D100 and write_refusal(sheet, records.MOST_BUFFER) is None
+    complete = method == D100 and write_refusal(sheet, records.MOST_BUFFER) in (None, (39, 0))
     content = sheet_as_bytes(sheet) if complete else None
     return by_record(question, sheet, records.judge_held(method), judge_reply, content)
 

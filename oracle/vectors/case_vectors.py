@@ -15,7 +15,7 @@ from vectors.judge_checks import (
 from vectors.record_answers import outcomes
 from vectors.script_checks import check_outcomes
 
-LEAST_CASES, MOST_LINES = 12, 350       # of a file
+LEAST_CASES, MOST_LINES = 12, 400       # of a file
 
 # --- Vectors ------------------------------------------------------------------
 
@@ -63,7 +63,7 @@ def outcomes_of(cases):
     return list(outcomes(cases.all_records()))
 
 
-BEFORE, S_8, S_9 = map(Cases, ("", *REQUESTS))
+BEFORE, S_8, S_9, S_10 = map(Cases, ("", *REQUESTS))
 
 
 # --- Self test ----------------------------------------------------------------
@@ -160,7 +160,7 @@ MISTAKES = (        # lines, and how the mistake in them is said
                  "write, judge, uses, compression, mark, pressure, ground, moment, put"),
     ("tank 1 2 3 4 5", "line 1: these are 5 figures, not D H W plate allowance Fy gravity"),
     ("tank 1 2 3 4 5 6 7 8", "line 1: these are 8 figures, not D H W plate allowance Fy gravity"),
-    ("request S-7", "line 1: a request is one of S-8, S-9"),
+    ("request S-7", "line 1: a request is one of S-8, S-9, S-10"),
     ("anchors 6 14,80 8", "line 1: '14,80' is not a whole number"),
     ("anchors 6 4,294,967,296 8", "line 1: 4,294,967,296 is above 4294967295"),
     ("clear\nread 0x00", "line 2: these are no bytes, of two hexadecimal digits each"),
@@ -210,15 +210,16 @@ def check_files():
     assert not S_8.group_leaf_lines()
     assert {*S_9.group_leaf_lines()} == {"moment"}      # and nothing else
     assert not S_9.group_records() and not S_9.group_sheets()
-    for cases in (BEFORE, S_8):
+    for cases in (BEFORE, S_8, S_10):
         assert {"judge", "marker"} <= {*cases.group_sheets()}
         assert {"steps", "read", "write", "judge", "compression"} <= {*cases.group_records()}
+    assert not S_10.group_leaf_lines()
 
 
 def self_test():
     check_lines()
     check_files()
-    for cases in (BEFORE, S_8):
+    for cases in (BEFORE, S_8, S_10):
         found, results = cases.all_records(), cases.all_outcomes()
         check_outcomes(found, results)
         check_demand_3(results)

@@ -36,6 +36,7 @@ def random_self_anchored_in_liquor():
 
 
 def random_anchored_in_liquor():
+    """About one in nine has size 6: 39 or 30 since S-10, as version 1 has no gravity."""
     rng = Random(82)
     for _ in range(170):
         yield handed_in(heavy_sheet(rng, anchored_sheet))

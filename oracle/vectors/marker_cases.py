@@ -64,9 +64,9 @@ def damaged(was, content, word):
 
 
 def altered(was, content):
-    """The same without a word, where some are still readable."""
+    """The same without a word, where some are still readable, and some were not before either."""
     content = bytes(content)
-    return Case(content) if readable(content) else Case(content, was)
+    return Case(content, was) if readable(was) and not readable(content) else Case(content)
 
 
 def read_as(was, content, word):

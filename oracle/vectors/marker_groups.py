@@ -6,11 +6,12 @@ from functools import cache
 
 from model import demand_3, printing
 from model.fields import FIELD_RANGES, WATER
+from model.filling_in import has_size_6
 from model.judging import Anchored
 from model.printing import MARKER_READS
 from model.refusals import D100
 from model.sheet_bytes import VERSION_AT
-from vectors import case_vectors, marker_liquor, marker_liquor_random
+from vectors import case_vectors, marker_liquor, marker_liquor_random, marker_size_6
 from vectors.judge_cases import counted
 from vectors.judge_need_steps import courses_of, told_by
 from vectors.liquor_readings import IN_COURSES, IN_RESISTANCE
@@ -35,8 +36,13 @@ from vectors.marker_texts import (
 )
 from vectors.need_points import ASTRAY, RIGHT
 from vectors.record_answers import Judged
+from vectors.records import MARK, Record
+from vectors.size_6_readings import ASTRAY as ASTRAY_WITH_SIZE_6
+from vectors.size_6_readings import IN_BYTES
+from vectors.size_6_readings import RIGHT as RIGHT_OF_SIZE_6
+from vectors.size_6_readings import record_read
 
-LEAST_SHEETS, MOST_SHEETS = 5_000, 13_000
+LEAST_SHEETS, MOST_SHEETS = 5_000, 14_000
 
 # --- All groups ---------------------------------------------------------------
 
@@ -72,6 +78,7 @@ IN_LIQUOR = (
     marker_liquor_random.random_changes_in_liquor, marker_liquor_random.random_noise_in_liquor,
 )
 LATER_GROUPS = (high_edges_at_steps, *IN_LIQUOR)    # stored after the cases that people can read
+LATEST_GROUPS = marker_size_6.GROUPS                # and those of S-10 after S-8's cases
 
 
 @cache
@@ -80,15 +87,18 @@ def group_cases():
     all of them, stand before the later groups, but for what came with a request."""
     before = set()
     groups = {}
-    for group in (*GROUPS, *LATER_GROUPS):
+    for group in (*GROUPS, *LATER_GROUPS, *LATEST_GROUPS):
         cases = {case.content: case for case in group() if case.content not in before}
         before.update(cases)
         groups[group.__name__] = list(cases.values())
-    later = {group.__name__: groups.pop(group.__name__) for group in LATER_GROUPS}
+    later, latest = ({group.__name__: groups.pop(group.__name__) for group in of_request}
+                     for of_request in (LATER_GROUPS, LATEST_GROUPS))
     return {**groups, **{f"cases_{name}": list(map(Case, contents))
                          for name, contents in case_vectors.BEFORE.group_sheets().items()}, **later,
             **{f"cases_s_8_{name}": list(map(Case, contents))
-               for name, contents in case_vectors.S_8.group_sheets().items()}}
+               for name, contents in case_vectors.S_8.group_sheets().items()}, **latest,
+            **{f"cases_s_10_{name}": list(map(Case, contents))
+               for name, contents in case_vectors.S_10.group_sheets().items()}}
 
 
 def all_cases():
@@ -138,7 +148,7 @@ def texts_summary():
 
 def check_counts():
     cases = all_cases()
-    contents = [case.content for group in (*GROUPS, *LATER_GROUPS)
+    contents = [case.content for group in (*GROUPS, *LATER_GROUPS, *LATEST_GROUPS)
                 for case in group_cases()[group.__name__]]
     assert LEAST_SHEETS <= len({*contents}) == len(contents) and len(cases) <= MOST_SHEETS
     assert damaged_count() >= len(cases) / 3
@@ -168,7 +178,7 @@ FORM = re.compile(
     f"(pull {PULL} {PULL}\nanchors spacing {VERDICT} strength {VERDICT}\n"
     f"|self wind {VERDICT} resist {NUMBER} (none|lift|over)\n)"
     "tank (sound|short)\n"
-    f"|refused (1[1-5]|17|18|34|37|16 ({'|'.join(map(str, FIELD_RANGES))}))\n")
+    f"|refused (1[1-5]|17|18|34|37|39|16 ({'|'.join(map(str, FIELD_RANGES))}))\n")
 
 
 def check_forms():
@@ -254,10 +264,34 @@ def check_versions():
             assert otherwise >= 4 and turned >= 2, (name, otherwise, turned)
 
 
+def check_size_6():
+    """Reports on sheets with size 6 in version 1, and 39 in version 2, alone and before 37. Every
+    text has the refusal of S-10's words; each reading that goes astray in bytes or in judging them
+    is told apart by some that are not drawn at random."""
+    said = {True: Counter(), False: Counter()}
+    for content, _was in all_cases():
+        refusal = marked(content).answer.refusal
+        read = record_read(RIGHT_OF_SIZE_6, None, Record(MARK, content))
+        assert read == (None if refusal is None else refusal[0]), content
+        if has_size_6(marked(content).sheet.anchors):
+            assert content[VERSION_AT] == 1
+            said[True][word_on(text_of(content))] += 1
+        said[False][text_of(content)] += 1
+    assert min(said[True][word] for word in ("sound", "short")) >= 100 and said[True]["refused"] > 9
+    assert said[False][b"refused 39\n"] >= 150
+    by_hand = [case.content for group in LATEST_GROUPS if not group.__name__.startswith("random")
+               for case in group_cases()[group.__name__]]
+    for name in IN_BYTES:
+        told = sum(record_read(ASTRAY_WITH_SIZE_6[name], None, Record(MARK, content))
+                   != record_read(RIGHT_OF_SIZE_6, None, Record(MARK, content))
+                   for content in by_hand)
+        assert told >= 2, (name, told)
+
+
 def check_refusals():
     """All that bytes lead to, 16 with every field."""
     words = {one for one in texts() if word_on(one) == "refused"}
-    numbers = (*range(11, 16), 17, 18, 34, 37)
+    numbers = (*range(11, 16), 17, 18, 34, 37, 39)
     assert words == {*(printing.refusal_text((number, 0)) for number in numbers),
                      *(printing.refusal_text((16, field)) for field in FIELD_RANGES)}
 
@@ -293,6 +327,7 @@ def self_test():
     check_lighter_tanks()
     check_steps()
     check_versions()
+    check_size_6()
     check_refusals()
     check_over_long()
     check_sizes()

@@ -3,13 +3,15 @@
 from random import Random
 
 from model.fields import FIELD_RANGES, GRAVITY_FIELD
+from model.filling_in import has_size_6
 from model.sheet_bytes import (
     COURSE_BYTES, FIRST_FIELD_AT, LAYOUTS, VERSION_1, VERSION_2, VERSION_AT, length_in,
 )
+from vectors import before_s_10
 from vectors.byte_changes import exchange, put_length, right_length
 from vectors.judge_cases import with_figure
 from vectors.judge_liquor_random import heavy_even_sheet, heavy_sheet
-from vectors.marker_cases import Case, altered, printed, readable
+from vectors.marker_cases import Case, altered, printed
 from vectors.marker_random import damage_by_addition, damage_by_move, damage_version, other_byte
 from vectors.random_sheets import anchored_sheet, even, self_anchored_sheet
 from vectors.scripts import end_figures
@@ -34,9 +36,12 @@ def random_self_anchored_in_liquor():
 
 
 def random_anchored_in_liquor():
+    """About one in nine has size 6, which is refused since S-10."""
     rng = Random(93)
     for _ in range(120):
-        yield printed(VERSION_2.sheet_as_bytes(heavy_sheet(rng, anchored_sheet)), "tank")
+        sheet = heavy_sheet(rng, anchored_sheet)
+        last = "refused 39" if has_size_6(sheet.anchors) else "tank"
+        yield printed(VERSION_2.sheet_as_bytes(sheet), last)
 
 
 def random_even_in_liquor():
@@ -51,7 +56,7 @@ def random_refused_in_liquor():
     rng = Random(95)
     for _ in range(80):
         sheet = heavy_even_sheet(rng)
-        while readable(VERSION_2.sheet_as_bytes(sheet)):
+        while before_s_10.readable(VERSION_2.sheet_as_bytes(sheet)):
             field = rng.choice((*FIELD_RANGES, *[GRAVITY_FIELD] * 8))
             sheet = with_figure(sheet, field, rng.choice((*end_figures(field), even(rng, field))))
         yield Case(VERSION_2.sheet_as_bytes(sheet))
@@ -96,24 +101,24 @@ DAMAGES = (
 
 
 def random_damage_in_liquor():
-    """One damage, and another one if reading accepts what comes of it."""
+    """One damage, and another one if reading accepts what comes of it, or did before S-10."""
     rng = Random(96)
     for _ in range(230):
         was = drawn_bytes(rng)
         content = bytearray(was)
         rng.choice(DAMAGES)(rng, content)
-        if readable(bytes(content)):
+        if before_s_10.readable(bytes(content)):
             rng.choice((damage_count, damage_version, damage_by_addition))(rng, content)
         yield altered(was, content)
 
 
 def random_changes_in_liquor():
-    """A bit, a byte or the gravity changed, and still readable."""
+    """A bit, a byte or the gravity changed, and still readable, or readable before S-10."""
     rng = Random(97)
     for _ in range(70):
         content = bytearray(drawn_bytes(rng))
         rng.choice((damage_one_bit, damage_one_byte))(rng, content)
-        if readable(bytes(content)):
+        if before_s_10.readable(bytes(content)):
             yield Case(bytes(content))
 
 

@@ -140,7 +140,7 @@ def anchors():
     """18 in each of its ways, among what 16 refuses and what is accepted."""
     for sheet in EXAMPLE_AND_HIGH:
         was = sheet_as_bytes(sheet)
-        for word, figures in anchor_cases(sheet.tank.D):
+        for word, figures in anchor_cases(sheet.tank.D, of_size_6="ok"):
             content = sheet_as_bytes(with_anchors(sheet, figures))
             yield read_as(was, content, word)
             if word != "ok":        # a course that is wrong too comes later

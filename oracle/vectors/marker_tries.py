@@ -82,6 +82,24 @@ def inputs_of_version_2():
     return tried
 
 
+def inputs_of_size_6():
+    """S-10: version 1 has a report, and version 2 is refused."""
+    tried = {}
+    for name, sheet in (("the example", EXAMPLE), ("a sheet of one course", ONE_COURSE),
+                        ("a sheet of twelve courses", FULL)):
+        six = changed(sheet, d=6)
+        first, second = (layout.sheet_as_bytes(six) for layout in (VERSION_1, VERSION_2))
+        tried[f"{name}, with size 6"] = first, "tank sound"
+        tried[f"{name}, with size 6 in version 2"] = second, "refused 39"
+        tried[f"{name}, with size 6, one byte less"] = first[:-1], "refused 11"
+        tried[f"{name}, with size 6 in version 2, one byte less"] = second[:-1], "refused 11"
+    return tried
+
+
+def all_inputs():
+    return {**inputs(most=65_536), **inputs_of_version_2(), **inputs_of_size_6()}
+
+
 # --- Ways to run the program --------------------------------------------------
 
 
@@ -160,7 +178,7 @@ def in_pieces(name, content, *places):
 
 
 def all_tries():
-    for name, (content, _last_line) in {**inputs(most=65_536), **inputs_of_version_2()}.items():
+    for name, (content, _last_line) in all_inputs().items():
         yield in_pieces(name, content)
     for name, content in {**SHEETS, **HEAVY_SHEETS}.items():
         yield in_pieces(f"{name}, byte by byte", content, *range(1, len(content)))
@@ -210,6 +228,6 @@ def try_program(path):
 
 def self_test():
     """The last lines, said by hand."""
-    for name, (content, last_line) in {**inputs(most=65_536), **inputs_of_version_2()}.items():
+    for name, (content, last_line) in all_inputs().items():
         *_before, last = printing.marked_text(content).decode("ascii").splitlines()
         assert last == last_line, (name, last)

@@ -8,12 +8,12 @@ the answer is to be. `python3 oracle groups` lists the records, and so the lines
 from itertools import combinations
 
 from model.fields import FIELD_RANGES, Anchors, Course, Tank, field_in_range, with_field
-from model.filling_in import left_by_a_run, made, run_to
+from model.filling_in import has_size_6, left_by_a_run, made, run_to
 from model.printing import refusal_word
 from model.refusals import FIELD_REFUSAL
 from model.sheet_bytes import VERSION_1, VERSION_2
 from vectors.record_answers import outcomes
-from vectors.records import OPENING, STEPS, figures_record, forge, new, write
+from vectors.records import OPENING, STEPS, figures_record, forge, new, read, write
 
 U32_MOST = 2**32 - 1
 
@@ -40,10 +40,11 @@ def step_record(step, entry):
 
 
 def steps_to(sheet):
-    """From the empty sheet to this one, which a run leaves."""
+    """From the empty sheet to this one, which a run leaves. Size 6 was stated before S-10; now that
+    step is refused, and the anchors are unstated at the end."""
     records = (new(), *(step_record(step, entry) for step, entry in run_to(sheet)))
     *_before, last = outcomes(records)
-    assert last.sheet == sheet
+    assert last.sheet == (unstated(sheet) if has_size_6(sheet.anchors) else sheet)
     return records
 
 
@@ -63,8 +64,16 @@ def write_word(n, more=0, layout=VERSION_1):
     return wrote(n) if layout.bytes_with(n) + more >= VERSION_2.bytes_with(n) else "refused 19"
 
 
+def anchors_word(figures):
+    """The word for stating such anchors, that are not refused otherwise, on a sheet with a tank."""
+    return "refused 39" if has_size_6(Anchors(*figures)) else "ok"
+
+
 def holding(sheet):
-    """Records that make this sheet the current one: steps, where they are few."""
+    """Records that make this sheet the current one: steps, where they are few, or bytes with
+    size 6."""
+    if has_size_6(sheet.anchors) and left_by_a_run(sheet):
+        return (read(VERSION_1.sheet_as_bytes(sheet)),)
     if sheet.count <= 3 and left_by_a_run(sheet):
         return steps_to(sheet)
     return (forge(sheet),)

@@ -77,7 +77,8 @@ def write_unstated_anchors():
 
 
 def write_ends():
-    """Figures at the ends of their ranges, by steps, written and read again."""
+    """Figures at the ends of their ranges, by steps, written and read again. Since S-10 the lowest
+    anchors are refused by the step, and read: steps_size_6.py has these ends without size 6."""
     for sheet in (all_at(0, (1_200,)), all_at(0, (1_200,) * 12), all_at(1, (14_400,) * 5),
                   all_at(1, widths_to(76_800, 12))):
         yield case("ok", *steps_to(sheet), write_for(sheet.count, 99),
@@ -170,7 +171,7 @@ def ranges_in_bytes():
 
 
 def anchors_in_bytes():
-    for word, figures in anchor_cases(FULL_TANK.D):
+    for word, figures in anchor_cases(FULL_TANK.D, of_size_6="ok"):
         yield case(word, read(sheet_as_bytes(with_anchors(ONE, figures))))
 
 

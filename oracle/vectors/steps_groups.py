@@ -104,6 +104,6 @@ def self_test():
     check_outcomes(records, results)
     words = Counter(result.word for result in results)
     numbers = {int(word.split()[1]) for word in words if word.startswith("refused")}
-    assert numbers == {*range(11, 20), *range(30, 37), 38}      # 37 and 42 are judge's alone
+    assert numbers == {*range(11, 20), *range(30, 37), 38, 39}      # 37 and 42 are judge's alone
     fields = {word for word in words if word.startswith("refused 16")}
     assert fields == {f"refused 16 {field}" for field in FIELD_RANGES}

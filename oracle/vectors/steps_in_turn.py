@@ -9,8 +9,8 @@ from model.fields import ANCHOR_FIELDS, COURSE_FIELDS, SITE_FIELDS, Course, with
 from model.filling_in import NO_COURSE, SELF_ANCHORED, sheet_of
 from vectors.records import anchors, course, forge, new, read, site, tank
 from vectors.scripts import (
-    U32_MOST, answers, case, end_figures, range_word, steps_to, unstated, with_outside, with_plate,
-    write_for, write_word, wrote,
+    U32_MOST, anchors_word, answers, case, end_figures, range_word, steps_to, unstated,
+    with_outside, with_plate, write_for, write_word, wrote,
 )
 from vectors.start_sheets import (
     EXAMPLE, FULL, FULL_ANCHORS, FULL_COURSES, FULL_SITE, FULL_TANK, LOW_COURSE, NO_TANK, ONE,
@@ -65,8 +65,8 @@ def allowances_by_steps():
         yield case(word, *steps_to(THREE), course(figures))
 
 
-def anchor_cases(D):
-    """Word and figures, on a tank of this diameter."""
+def anchor_cases(D, of_size_6="refused 39"):
+    """Word and figures, on a tank of this diameter; version 1 has another word for size 6."""
     for N in (6, 7, 199, 200):
         yield "ok", (N, D, 8)
     yield "refused 18", (6, D - 1, 8)
@@ -87,7 +87,8 @@ def anchor_cases(D):
         yield "refused 16 12", (N, 0, 0)
         yield "refused 16 12", (N, D - 1, 13)       # 16 and 18
     for d in range(17):
-        yield "ok" if d in (6, 7, 8, 9, 10, 11, 12, 14, 16) else "refused 18", (77, D, d)
+        word = of_size_6 if d == 6 else "ok" if d in (7, 8, 9, 10, 11, 12, 14, 16) else "refused 18"
+        yield word, (77, D, d)
     yield "refused 16 14", (6, D, 17)
     yield "refused 16 14", (6, D - 1, 17)           # 16 and 18
     yield "refused 16 14", (6, D, U32_MOST)
@@ -119,7 +120,7 @@ def restated_site():
                       site(with_outside(FULL_SITE, field)), write_for(1, field), site(example.SITE))
 
 
-ACCEPTED_ANCHORS = (        # on the full sheet's tank
+ACCEPTED_ANCHORS = (        # on the full sheet's tank; since S-10 the first is refused
     (6, 18_000, 6), (200, 300_000, 16), (0, 0, 0), (24, 18_654, 14), FULL_ANCHORS,
 )
 REFUSED_ANCHORS = (
@@ -133,8 +134,8 @@ def restated_anchors():
     before = steps_to(ONE)
     words, wrong = zip(*REFUSED_ANCHORS)
     for figures in ACCEPTED_ANCHORS:
-        yield answers(["ok"] * 5 + [*words, write_word(1)], *before, anchors(figures),
-                      *map(anchors, wrong), write_for(1, 2))
+        yield answers(["ok"] * 4 + [anchors_word(figures), *words, write_word(1)], *before,
+                      anchors(figures), *map(anchors, wrong), write_for(1, 2))
     yield case(write_word(1), *before, *map(anchors, ACCEPTED_ANCHORS), write_for(1, 3))
     yield case(write_word(1), *before, *map(anchors, reversed(ACCEPTED_ANCHORS)), write_for(1, 4))
 
@@ -185,12 +186,19 @@ def unstated_then_stated():
     for sheet in (ONE, EXAMPLE):
         before = steps_to(unstated(sheet))
         n = sheet.count
-        words = ["ok"] * (len(before) - 1) + ["refused 38", "ok", write_word(n)]
+        def words_with(figures):
+            """Size 6 leaves them unstated, or as they were."""
+            word = anchors_word(figures)
+            written = write_word(n) if word == "ok" else "refused 38"
+            return [*["ok"] * (len(before) - 1), "refused 38", word, written]
+
         for figures in ACCEPTED_ANCHORS:
-            yield answers(words, *before, write_for(n, 1), anchors(figures), write_for(n, 2))
+            yield answers(words_with(figures), *before, write_for(n, 1), anchors(figures),
+                          write_for(n, 2))
         for one, other in permutations(((0, 0, 0), (6, 18_000, 6), (24, 18_654, 12)), 2):
-            yield answers([*words, "ok", write_word(n)], *before, write_for(n, 3), anchors(one),
-                          write_for(n, 4), anchors(other), write_for(n, 5))
+            yield answers([*words_with(one), anchors_word(other), write_word(n)], *before,
+                          write_for(n, 3), anchors(one), write_for(n, 4), anchors(other),
+                          write_for(n, 5))
     # the same steps, with N = 0 stated and without
     yield answers(["ok"] * 4 + [write_word(1), "held"] + ["ok"] * 3 + ["refused 38"], new(),
                   tank(FULL_TANK), anchors((0, 0, 0)), site(FULL_SITE), course(FULL_COURSES[0]),
@@ -242,7 +250,13 @@ def stated_anchors_stay():
              (wrote(1), write_for(12, 5)))
     words, records = zip(*later)
     for figures in ACCEPTED_ANCHORS:
-        yield answers(["ok", "ok", *words], new(), tank(FULL_TANK), anchors(figures), *records)
+        if anchors_word(figures) == "ok":
+            yield answers(["ok", "ok", *words], new(), tank(FULL_TANK), anchors(figures), *records)
+        else:       # none are stated; 38 goes before 19
+            lacking = ["refused 38" if word in ("refused 19", write_word(1), wrote(1)) else word
+                       for word in words]
+            yield answers(["ok", "refused 39", *lacking], new(), tank(FULL_TANK), anchors(figures),
+                          *records)
     for n, word, written in ((11, "refused 34", wrote(11)), (12, "refused 33", write_word(12))):
         for figures in ((0, 0, 0), FULL_ANCHORS):
             yield answers(["ok"] * (n + 3) + [word, written], new(), tank(FULL_TANK),

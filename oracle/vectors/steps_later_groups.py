@@ -60,7 +60,7 @@ def check_words():
     in bytes."""
     pairs = list(zip(all_records(), all_outcomes(), strict=True))
     words = {result.word for record, result in pairs if record.opcode == READ}
-    assert {f"refused {number}" for number in (*range(11, 16), 17, 18, 34)} <= words
+    assert {f"refused {number}" for number in (*range(11, 16), 17, 18, 34, 39)} <= words
     for opcode in (TANK, READ):
         assert any(record.opcode == opcode and result.word == f"refused 16 {GRAVITY_FIELD}"
                    for record, result in pairs)

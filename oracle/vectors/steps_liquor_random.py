@@ -5,9 +5,9 @@ sheets built by hand.
 from functools import partial
 from random import Random
 
-from model import sheet_bytes
 from model.fields import FIELD_RANGES, GRAVITY_FIELD, with_field
 from model.sheet_bytes import FIRST_FIELD_AT, LAYOUTS, VERSION_1, VERSION_2, VERSION_AT
+from vectors import before_s_10
 from vectors.byte_changes import put_length, right_length
 from vectors.judge_liquor_random import drawn_gravity, heavy_even_sheet
 from vectors.records import (
@@ -73,14 +73,14 @@ DAMAGES = (
 
 
 def random_damage_of_version_2():
-    """What is still accepted is written."""
+    """What is still accepted, or was before S-10, is written."""
     rng = Random(89)
     for _ in range(110):
         content = bytearray(VERSION_2.sheet_as_bytes(heavy_even_sheet(rng)))
         rng.choice(DAMAGES)(rng, content)
         if rng.random() < 0.3 and len(content) > VERSION_2.head_bytes():
             damage_one_bit(rng, content)
-        accepted = sheet_bytes.read(bytes(content)).refusal is None
+        accepted = before_s_10.readable(bytes(content))
         yield [read(content), *[write(len(content), rng.randrange(256))] * accepted]
 
 

@@ -4,7 +4,7 @@ from random import Random
 
 from model import sheet_bytes
 from model.fields import COURSE_FIELDS, SITE_FIELDS, Anchors, Course, Site, Tank, with_field
-from model.filling_in import SELF_ANCHORED, left_by_a_run, sheet_of
+from model.filling_in import SELF_ANCHORED, has_size_6, left_by_a_run, sheet_of
 from model.refusals import MOST_COURSES, MOST_SHELL_HEIGHT
 from model.sheet_bytes import COURSE_BYTES, FIRST_FIELD_AT, VERSION_1, VERSION_AT, bytes_as_figures
 from model.tank_rules import BOLT_CHART
@@ -114,7 +114,8 @@ def random_bytes_sheets():
         content = sheet_as_bytes(sheet)
         more = [drawn_step(rng, rng.choice((SITE, ANCHORS, COURSE)), sheet.tank.D)
                 for _ in range(2)]
-        before = answers([write_word(sheet.count)], read(content), write(len(content), 0))
+        word = "refused 39" if has_size_6(sheet.anchors) else write_word(sheet.count)
+        before = answers([word], read(content), write(len(content), 0))
         yield *before, *more
 
 

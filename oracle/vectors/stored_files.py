@@ -8,8 +8,8 @@ from model import printing
 from model.filling_in import EXAMPLE
 from vectors import (
     case_files, case_vectors, compression_groups, compression_later_groups, current_sheet_groups,
-    judge_cases, judge_groups, judge_later_groups, leaf_lines, leaf_liquor, leaf_slender,
-    marker_groups, records, steps_groups, steps_later_groups,
+    judge_cases, judge_groups, judge_later_groups, leaf_lines, leaf_liquor, leaf_size_6,
+    leaf_slender, marker_groups, records, steps_groups, steps_later_groups, steps_size_6_groups,
 )
 from vectors.start_sheets import EXAMPLE_BYTES
 
@@ -31,6 +31,7 @@ RECORDS = (     # what a module's group names begin with, and the module
     ("compression_", compression_groups), ("cases_", case_vectors.BEFORE),
     ("judge_", judge_later_groups), ("steps_", steps_later_groups),
     ("compression_", compression_later_groups), ("cases_s_8_", case_vectors.S_8),
+    ("size_6_", steps_size_6_groups), ("cases_s_10_", case_vectors.S_10),
 )
 
 
@@ -76,14 +77,15 @@ def record_parts():
 @cache
 def leaf_groups():
     """All lines of the leaves; those of the cases that people can read; those of S-8; those of S-9,
-    and of the cases that came with it."""
+    and of the cases that came with it; those of S-10."""
     return {"leaves": leaf_lines.all_lines(),
             **{f"cases_{name}": lines
                for name, lines in case_vectors.BEFORE.group_leaf_lines().items()},
             **{f"liquor_{name}": lines for name, lines in leaf_liquor.group_lines().items()},
             **{f"slender_{name}": lines for name, lines in leaf_slender.group_lines().items()},
             **{f"cases_s_9_{name}": lines
-               for name, lines in case_vectors.S_9.group_leaf_lines().items()}}
+               for name, lines in case_vectors.S_9.group_leaf_lines().items()},
+            **{f"size_6_{name}": lines for name, lines in leaf_size_6.group_lines().items()}}
 
 
 def leaf_files():

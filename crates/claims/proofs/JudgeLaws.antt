@@ -18,12 +18,13 @@ use Rattle.rules.specs.Method.{method_number, is_method, other_method, method_of
 use Rattle.rules.specs.declared.method.Method.{Method}
 use Rattle.rules.proofs.MethodLaws.{is_method_lem, method_of_lem, other_exactly, chosen_exactly, refused_is}
 use Rattle.entries.specs.declared.sheet.Sheet.{Sheet}
-use Rattle.sheet.specs.Steps.{LeftByRun, reachable}
+use Rattle.sheet.specs.Steps.{reachable}
+use Rattle.sheet.specs.Runs.{LeftByRun}
 use Rattle.sheet.specs.Complete.{incomplete, entries_of, entries_in, completed_of, is_thirty, order_after}
 use Rattle.entries.specs.declared.complete.Entries.{Entries}
 use Rattle.sheet.proofs.CompleteLaws.{not_thirty, complete_first, entries_are}
 use Rattle.sheet.proofs.AnswerLaws.{never_answered, thirty_first}
-use Rattle.sheet.proofs.RebuildLaws.{left_exactly}
+use Rattle.sheet.proofs.RunLaws.{left_exactly}
 use Rattle.claims.specs.Judging.{water_above, judge_order, report_with, report_on, refused_for, unless_refused, judged, completed_order, judged_completed, report_for, report_by}
 use Rattle.reports.specs.declared.report.Report.{Report}
 use Rattle.reports.specs.declared.report.Judgement.{Judgement}

@@ -1,7 +1,7 @@
 -- The cases that document 01 marks ◆: "The example tank" with the figures changed that the case names, and what its
 -- report then says, its earthquake pull by document 02, S-5, and its needs by S-7; beside them the case of S-3, a plate a mil below its
--- need (S-7), and tanks with liquor in them (S-8). The uses of either way of standing. And the same tank with its anchors left out (S-1),
--- and with water above its shell.
+-- need (S-7), and tanks with liquor in them (S-8). The uses of either way of standing. And the same tank with its anchors left out (S-1), on
+-- bolts of size 6 (S-10), and with water above its shell.
 use Rattle.std.specs.Prelude.{List, [], ◌∷◌, ℕ, ◌-◌, ℤ, pos, neg_ℤ, get_or, replicate, Some, None, Float}
 use Rattle.fields.specs.Refusal.{plain}
 use Rattle.fields.specs.declared.refusal.Code.{Code}
@@ -49,6 +49,16 @@ example = example_with 105 30000 (six_on 14800)
 abbrev pub example_unstated : Sheet
 example_unstated =
     record { tank = example.tank; site = example.site; anchors = None; courses = example.courses; count = example.count }
+
+-- On bolts of size 6, with a gravity of one's own; and with its site left out, or its courses (S-10).
+abbrev pub on_size_6 : ℕ → Sheet
+on_size_6 G = example_of G 105 30000 (record { number = 6; circle = 14800; size = 6 })
+
+abbrev pub without_site : Sheet
+without_site = let s = on_size_6 1000 in record { tank = s.tank; site = None; anchors = s.anchors; courses = s.courses; count = s.count }
+
+abbrev pub without_course : Sheet
+without_course = let s = on_size_6 1000 in record { tank = s.tank; site = s.site; anchors = s.anchors; courses = replicate 12 blank_course; count = 0 }
 
 -- "H 28,801 is refused 37": the shell is 28,800 high
 abbrev pub example_above : Sheet

@@ -23,7 +23,7 @@ pub fn of_sheet(s: Sheet) -> Result<Entries, Refusal>
     complete_reachable(s, height)
 }
 
-// The entries of the sheet that these bytes are, which is not tested for 30: it is made here, by steps alone.
+// The entries of the sheet that these bytes are, which is not tested for 30: a run leaves what is read.
 // Refused: as reading is.
 pub fn of_bytes(bytes: &[u8]) -> Result<Entries, Refusal>
     ensures value { result ≡ read_completed bytes.now }
@@ -33,7 +33,7 @@ pub fn of_bytes(bytes: &[u8]) -> Result<Entries, Refusal>
     complete_reachable(reading.sheet, reading.height)
 }
 
-// The entries of a sheet that steps have left, whose courses have this height (at most 76,800, so the cast is whole). Refused: 32, 35, 36, 38.
+// The entries of a sheet that a run has left, whose courses have this height (at most 76,800, so the cast is whole). Refused: 32, 35, 36, 38.
 #[tactic(auto, unfolding(sheet::specs::Complete::completed_of))]
 fn complete_reachable(s: Sheet, height: u64) -> Result<Entries, Refusal>
     requires reached { T (reachable s) }

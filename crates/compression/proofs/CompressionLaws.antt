@@ -39,7 +39,7 @@ use Rattle.entries.specs.declared.sheet.Anchors.{Anchors}
 use Rattle.entries.specs.declared.sheet.Sheet.{Sheet}
 use Rattle.flaws.proofs.FieldLaws.{CourseIn, course_in_lem, tank_in_lem}
 use Rattle.parts.specs.Parts.{courses_clear}
-use Rattle.sheet.specs.Steps.{LeftByRun}
+use Rattle.sheet.specs.Runs.{LeftByRun}
 use Rattle.sheet.specs.Complete.{incomplete, entries_of, entries_in, completed_of, Valid}
 use Rattle.entries.specs.declared.complete.Entries.{Entries}
 use Rattle.sheet.proofs.AnswerLaws.{never_answered, thirty_first}
@@ -183,7 +183,7 @@ module _ (n : ℕ) (s : Sheet) where
   compression_first : first_of (compression_order n s) ≡ result_and (first_of (judge_order n s)) (first_of (shell_uplift (entries_of s) ∷ []))
   compression_first = first_then (judge_order n s) (shell_uplift (entries_of s) ∷ [])
 
-  -- 30 exactly where no run of steps leaves the sheet
+  -- 30 exactly where no run leaves the sheet
   pub thirty_compression : (shell_compression n s ≡ Err Unreachable) ↔ (LeftByRun s → ⊥)
   unfolding shell_compression
   thirty_compression =

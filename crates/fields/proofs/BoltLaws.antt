@@ -1,14 +1,14 @@
--- A size that is in the chart has a stress area above 0, and no size has more than 2,500.
+-- A size that is in the chart has a stress area above 0, and no size has more than 2,500. Size 6, in the chart, is discontinued, and no other.
 -- Assumes nothing.
-use mathlib.Core.Path.{◌≡◌, ap}
+use mathlib.Core.Path.{◌≡◌, refl, ap}
 use mathlib.Core.Bool.{Bool, true, false, cond, ◌&&◌, ◌||◌}
-use mathlib.Core.List.{List, [], ◌∷◌}
+use mathlib.Core.List.{List, [], ◌∷◌, map}
 use Prim.Native.Nat.{ℕ, ◌≤◌, ◌<◌}
 use native.Mathlib.Omega.{arith}
 use lib.Dec.{T, leb, ltb, eqb, leb→le, ltb→lt}
 use mir.Facts.{and_yes}
 use Rattle.std.specs.Prelude.{Option, Some, None, SomeIff}
-use Rattle.fields.specs.Bolt.{Bolt, chart, area_in, size_in, in_chart, stress_area}
+use Rattle.fields.specs.Bolt.{Bolt, chart, area_in, size_in, in_chart, stress_area, discontinued}
 
 -- the test of one bolt, an area from 1 to 2,500, and of all
 abbrev fair : Bolt → Bool
@@ -41,6 +41,11 @@ stress_area_above d t = above chart d tt t
 pub stress_area_most : (d : ℕ) → stress_area d ≤ 2500
 unfolding stress_area
 stress_area_most d = most chart d tt
+
+-- document 02, S-10: of the chart's sizes the first, 6, is discontinued, and no other
+pub size_6_alone : map (λ (b : Bolt). discontinued b.size) chart
+    ≡ true ∷ false ∷ false ∷ false ∷ false ∷ false ∷ false ∷ false ∷ false ∷ []
+size_6_alone = refl
 
 -- the area that the chart gives of a size that it has
 pub charted : {o : Option ℕ} {P : Type 0} {v : ℕ} → SomeIff o P v → P → o ≡ Some v

@@ -5,7 +5,7 @@ use mathlib.Core.Bool.{false}
 use lib.Dec.{eqb}
 use Rattle.fields.specs.Refusal.{code_of}
 use Rattle.fields.specs.declared.refusal.Refusal.{Refusal}
-use Rattle.fields.specs.declared.refusal.Refusal.TheVariants.{TooFewBytes, TooManyBytes, BadLength, BadVersion, BadCount, OutOfRange, AllowanceNotBelowPlate, BadAnchors, BufferTooShort, Unreachable, TankStated, NoTank, CoursesFull, ShellTooHigh, NoCourse, NoSite, WaterAboveShell, AnchorsUnstated, FigureOutOfRange, BadSiteClass, BadMethod, ShellUplift, NotSlender, MomentTooLarge}
+use Rattle.fields.specs.declared.refusal.Refusal.TheVariants.{TooFewBytes, TooManyBytes, BadLength, BadVersion, BadCount, OutOfRange, AllowanceNotBelowPlate, BadAnchors, BufferTooShort, Unreachable, TankStated, NoTank, CoursesFull, ShellTooHigh, NoCourse, NoSite, WaterAboveShell, AnchorsUnstated, SizeDiscontinued, FigureOutOfRange, BadSiteClass, BadMethod, ShellUplift, NotSlender, MomentTooLarge}
 
 pub never_zero : (r : Refusal) → eqb (code_of r).number 0 ≡ false
 never_zero TooFewBytes = refl
@@ -26,6 +26,7 @@ never_zero NoCourse = refl
 never_zero NoSite = refl
 never_zero WaterAboveShell = refl
 never_zero AnchorsUnstated = refl
+never_zero SizeDiscontinued = refl
 never_zero FigureOutOfRange = refl
 never_zero BadSiteClass = refl
 never_zero BadMethod = refl

@@ -1,4 +1,4 @@
--- The bolt chart: document 01, "Anchored".
+-- The bolt chart: document 01, "Anchored"; document 02, S-10.
 use Rattle.std.specs.Prelude.{Bool, false, ◌||◌, cond, List, [], ◌∷◌, ℕ, eqb}
 
 -- a size in eighths of an inch, and its stress area A in thousandths of a square inch
@@ -38,3 +38,7 @@ in_chart d = size_in chart d
 -- A of the size d, and 0 for a size that is not in the chart
 unfoldable pub stress_area : ℕ → ℕ
 stress_area d = area_in chart d
+
+-- S-10: "The supplier has dropped size 6". The chart keeps it, since "version 1 sheets of standing tanks that use it are still read and judged".
+abbrev pub discontinued : ℕ → Bool
+discontinued d = eqb d 6

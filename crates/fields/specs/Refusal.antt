@@ -3,7 +3,7 @@
 use Rattle.std.specs.Prelude.{ℕ, List, ◌++◌, eqb, cond, codes, decimal}
 use Rattle.fields.specs.declared.refusal.Code.{Code}
 use Rattle.fields.specs.declared.refusal.Refusal.{Refusal}
-use Rattle.fields.specs.declared.refusal.Refusal.TheVariants.{TooFewBytes, TooManyBytes, BadLength, BadVersion, BadCount, OutOfRange, AllowanceNotBelowPlate, BadAnchors, BufferTooShort, Unreachable, TankStated, NoTank, CoursesFull, ShellTooHigh, NoCourse, NoSite, WaterAboveShell, AnchorsUnstated, FigureOutOfRange, BadSiteClass, BadMethod, ShellUplift, NotSlender, MomentTooLarge}
+use Rattle.fields.specs.declared.refusal.Refusal.TheVariants.{TooFewBytes, TooManyBytes, BadLength, BadVersion, BadCount, OutOfRange, AllowanceNotBelowPlate, BadAnchors, BufferTooShort, Unreachable, TankStated, NoTank, CoursesFull, ShellTooHigh, NoCourse, NoSite, WaterAboveShell, AnchorsUnstated, SizeDiscontinued, FigureOutOfRange, BadSiteClass, BadMethod, ShellUplift, NotSlender, MomentTooLarge}
 
 -- the number alone
 abbrev pub plain : ℕ → Code
@@ -28,6 +28,7 @@ code_of NoCourse = plain 35
 code_of NoSite = plain 36
 code_of WaterAboveShell = plain 37
 code_of AnchorsUnstated = plain 38
+code_of SizeDiscontinued = plain 39
 code_of FigureOutOfRange = plain 40
 code_of BadSiteClass = plain 41
 code_of BadMethod = plain 42

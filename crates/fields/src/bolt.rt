@@ -1,6 +1,6 @@
-// The bolt chart (document 01, "Anchored").
-ghost use Rattle.std.specs.Prelude.{T, SomeIff};
-ghost use Rattle.fields.specs.Bolt.{in_chart, stress_area};
+// The bolt chart (document 01, "Anchored"), and the size that the supplier has dropped (document 02, S-10).
+ghost use Rattle.std.specs.Prelude.{◌≡◌, T, SomeIff};
+ghost use Rattle.fields.specs.Bolt.{in_chart, stress_area, discontinued};
 
 // The tensile stress area, in thousandths of a square inch, of a bolt of this many eighths of an
 // inch, for a size that the chart has.
@@ -20,4 +20,11 @@ pub fn stress_area(size: u32) -> Option<u32>
         16 => Some(2500),
         _ => None,
     }
+}
+
+// Whether this size is no longer to be had. The chart keeps it, for sheets of version 1.
+pub fn is_discontinued(size: u32) -> bool
+    ensures { result ≡ discontinued size }
+{
+    size == 6
 }

@@ -5,6 +5,6 @@ mod bolt;
 mod range;
 mod refusal;
 
-pub use bolt::stress_area;
-pub use range::in_range;
+pub use bolt::{is_discontinued, stress_area};
+pub use range::{WATER, in_range};
 pub use refusal::{Code, Refusal};

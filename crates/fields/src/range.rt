@@ -27,6 +27,9 @@ const RANGES: [(u32, u32); 21] = [
     (1000, 1300),
 ];
 
+// The gravity of water (field 20), in thousandths.
+pub const WATER: u32 = 1000;
+
 // The one field that may also be 0: N, the number of anchors.
 const ANCHORS: u32 = 12;
 

@@ -1,5 +1,5 @@
 // The refusals (document 01, "Refusals that come from the input" and "from the state"; document 02: 38 of S-1,
-// 40 and 41 of S-2, 42 of S-3, 43 of S-6, 44 and 45 of S-9).
+// 39 of S-10, 40 and 41 of S-2, 42 of S-3, 43 of S-6, 44 and 45 of S-9).
 ghost use Rattle.std.specs.Prelude.{◌≡◌, Some};
 ghost use Rattle.fields.specs.Refusal.{code_of, plain, printed_code};
 
@@ -27,6 +27,7 @@ pub enum Refusal {
     NoSite,
     WaterAboveShell,
     AnchorsUnstated,
+    SizeDiscontinued,
     // A figure is outside its range, where the documents give no field with it.
     FigureOutOfRange,
     BadSiteClass,
@@ -74,6 +75,7 @@ impl Refusal {
             Refusal::NoSite => plain(36),
             Refusal::WaterAboveShell => plain(37),
             Refusal::AnchorsUnstated => plain(38),
+            Refusal::SizeDiscontinued => plain(39),
             Refusal::FigureOutOfRange => plain(40),
             Refusal::BadSiteClass => plain(41),
             Refusal::BadMethod => plain(42),

@@ -1,9 +1,9 @@
--- What is wrong with a step's figures: document 01, "Refusals that come from the input", 16, 17 and 18, and 34 of a course; and the figures
--- that stand where nothing was stated, which have a flaw (document 02, S-1). 16 "also for field 20, tried after field 6" (S-8) is by
--- `tank_fields` of `entries`.
+-- What is wrong with a step's figures: document 01, "Refusals that come from the input", 16, 17 and 18, and 34 of a course; 39 of anchors
+-- (document 02, S-10); and the figures that stand where nothing was stated, which have a flaw (S-1). 16 "also for field 20, tried after field
+-- 6" (S-8) is by `tank_fields` of `entries`.
 use Rattle.std.specs.Prelude.{Bool, not, cond, ◌||◌, List, [], ◌∷◌, ◌++◌, ℕ, ◌+◌, leb, ltb, eqb, Option, Some, None}
-use Rattle.fields.specs.Bolt.{in_chart}
-use Rattle.fields.specs.declared.refusal.Refusal.TheVariants.{AllowanceNotBelowPlate, BadAnchors, ShellTooHigh}
+use Rattle.fields.specs.Bolt.{in_chart, discontinued}
+use Rattle.fields.specs.declared.refusal.Refusal.TheVariants.{AllowanceNotBelowPlate, BadAnchors, ShellTooHigh, SizeDiscontinued}
 use Rattle.fields.specs.Order.{Condition, ◌when◌, outside}
 use Rattle.entries.specs.declared.sheet.Tank.{Tank}
 use Rattle.entries.specs.declared.sheet.Site.{Site}
@@ -35,6 +35,10 @@ bad_anchors D a =
     cond (eqb a.number 0)
     (not (eqb a.circle 0) || not (eqb a.size 0))
     (ltb a.circle D || not (in_chart a.size))
+
+-- 39: "for size 6". Only in version 1 of a sheet may anchors have it, so it stands in no list below.
+abbrev pub size_discontinued : Anchors → Condition
+size_discontinued a = SizeDiscontinued when discontinued a.size
 
 -- 34: "this course would bring Hs above 76,800", on courses of this height
 abbrev pub too_high : ℕ → Course → Condition

@@ -1,11 +1,11 @@
 // What the figures of a step are refused for: 16, 17 and 18 (document 01, "Refusals that come from
-// the input").
+// the input"), and 39 (document 02, S-10).
 #![tactic(auto)]
 
 ghost use Rattle.std.specs.Prelude.{◌≡◌, [], ◌∷◌, not};
 ghost use Rattle.fields.specs.Range.{range, within};
 ghost use Rattle.fields.specs.Order.{◌when◌, first_of, answer_code, first_code};
-ghost use Rattle.flaws.specs.Flaws.{allowance_too_large, bad_anchors, tank_flaws, site_flaws, anchor_flaws, course_flaws};
+ghost use Rattle.flaws.specs.Flaws.{allowance_too_large, bad_anchors, size_discontinued, tank_flaws, site_flaws, anchor_flaws, course_flaws};
 
 use entries::{Anchors, Course, Site, Tank};
 use fields::Refusal;
@@ -61,7 +61,7 @@ pub fn site_flaw(x: Site) -> Result<(), Refusal>
     check_range(11, x.moment)
 }
 
-// For a tank of this diameter.
+// For a tank of this diameter, but for 39.
 #[tactic(auto, unfolding(crate::specs::Flaws::anchor_flaws))]
 pub fn anchors_flaw(diameter: u32, a: Anchors) -> Result<(), Refusal>
     ensures value { result ≡ first_of (anchor_flaws diameter a) }
@@ -84,6 +84,18 @@ fn bad_anchors(diameter: u32, a: Anchors) -> bool
         return a.circle != 0 || a.size != 0;
     }
     a.circle < diameter || fields::stress_area(a.size).is_none()
+}
+
+// 39, for the size that can be neither stated nor written any more.
+pub fn size_flaw(a: Anchors) -> Result<(), Refusal>
+    ensures value { result ≡ first_of (size_discontinued a ∷ []) }
+    ensures code { answer_code result ≡ first_code (size_discontinued a ∷ []) }
+{
+    if fields::is_discontinued(a.size) {
+        Err(Refusal::SizeDiscontinued)
+    } else {
+        Ok(())
+    }
 }
 
 #[tactic(auto, unfolding(crate::specs::Flaws::course_flaws))]

@@ -1,5 +1,5 @@
 -- A sheet's bytes come back, by the layout alone: figures that are read and laid out again are the same bytes (`same_bytes`), and figures
--- that are laid out are read again (`tank_back` and what follows it).
+-- that are laid out are bytes and are read again (`small_of` and what follows it).
 -- Assumes nothing.
 use mathlib.Core.Path.{◌≡◌, refl, sym, ap, ◌∙◌}
 use mathlib.Core.List.{List, [], ◌∷◌, ◌++◌, append_assoc}
@@ -20,7 +20,7 @@ use Rattle.layout.specs.declared.version.Version.{Version}
 use Rattle.layout.specs.declared.version.Version.TheVariants.{One, Two}
 use Rattle.layout.specs.Layout.{version_number, tank_count, prefix_length, tail_length, body_length, prefix_of, tail_head, courses_figures, tail_of, layout}
 use Rattle.layout.specs.Header.{tank_in, site_in, anchors_in, course_in, courses_in, tail_in, renewed, Header}
-use Rattle.layout.proofs.NumberLaws.{fours_append, four_back, two_back, back_two, bytes_drop, figures_back}
+use Rattle.layout.proofs.NumberLaws.{fours_append, four_back, two_back, back_two, bytes_drop, bytes_cons, bytes_append, bytes_two, bytes_fours, figures_back}
 use Rattle.layout.proofs.LayoutLaws.{whole_parts, layout_length}
 
 -- ---- read, then laid out
@@ -121,6 +121,11 @@ abbrev pub Small : List ℕ → Type 0
 Small [] = Unit {0}
 Small (x ∷ xs) = (x < 4294967296) × Small xs
 
+small_take : (n : ℕ) (xs : List ℕ) → Small xs → Small (take n xs)
+small_take zero xs h = tt
+small_take (suc n) [] h = tt
+small_take (suc n) (x ∷ xs) h = (h.0, small_take n xs h.1)
+
 pub small_of : (fs : List Figure) → Pass fs → Small (values fs)
 small_of [] p = tt
 small_of (f ∷ fs) p = (omega (arith, within_most f.field f.value p.0), small_of fs p.1)
@@ -166,32 +171,68 @@ module _ (x : Site) (a : Anchors) (cs : List Course) where
   pub courses_back_again : SmallCourses cs → courses_in (length cs) (drop 33 tail_laid) ≡ cs
   courses_back_again h = ap (λ (l : List ℕ). courses_in (length cs) l) courses_laid ∙ courses_read h
 
--- and so do those of version 2
-module _ (t : Tank) (x : Site) (a : Anchors) (cs : List Course) where
+-- a version tells a tank where it has all its figures
+abbrev pub Tells : Version → Tank → Type 0
+Tells One t = t.gravity ≡ 1000
+Tells Two t = Unit {0}
+
+-- and so do those of the prefix, of a tank that the version tells
+module _ (v : Version) (t : Tank) (x : Site) (a : Anchors) (cs : List Course) where
   abbrev pub laid : List ℕ
-  laid = layout Two t x a cs
+  laid = layout v t x a cs
 
-  pub tank_back : Small (tank_figures t) → tank_in Two (drop 3 laid) ≡ t
+pub tank_back : (v : Version) (t : Tank) (x : Site) (a : Anchors) (cs : List Course) → Tells v t → Small (tank_figures t)
+    → tank_in v (drop 3 (laid v t x a cs)) ≡ t
+unfolding prefix_of
+tank_back One t x a cs e h =
+    let six = take 6 (tank_figures t) in
+    ap (λ (xs : List ℕ). tank_with (xs ++ (1000 ∷ []))) (figures_read six 0 (drop 3 (laid One t x a cs)) (tail_of x a cs) refl (small_take 6 (tank_figures t) h))
+    ∙ ap (λ (g : ℕ). tank_with (six ++ (g ∷ []))) (sym e)
+tank_back Two t x a cs e h = ap tank_with (figures_read (tank_figures t) 0 (drop 3 (laid Two t x a cs)) (tail_of x a cs) refl h)
+
+pub tail_back : (v : Version) (t : Tank) (x : Site) (a : Anchors) (cs : List Course) → tail_in v (laid v t x a cs) ≡ tail_of x a cs
+unfolding prefix_of
+tail_back One t x a cs = refl
+tail_back Two t x a cs = refl
+
+pub laid_version : (v : Version) (t : Tank) (x : Site) (a : Anchors) (cs : List Course) → get_or (laid v t x a cs) 2 0 ≡ version_number v
+unfolding prefix_of
+laid_version v t x a cs = refl
+
+module _ (v : Version) (t : Tank) (x : Site) (a : Anchors) (cs : List Course) (m : length cs ≤ 12) where
+  pub laid_length : two_in (laid v t x a cs) ≡ body_length v (length cs)
   unfolding prefix_of
-  tank_back h = ap tank_with (figures_read (tank_figures t) 0 (drop 3 laid) (tail_of x a cs) refl h)
+  laid_length = two_back (body_length v (length cs)) (drop 2 (laid v t x a cs)) (go v)
+    where
+      go : (v : Version) → body_length v (length cs) < 65536
+      go One = omega (arith, m)
+      go Two = omega (arith, m)
 
-  pub tail_back : tail_in Two laid ≡ tail_of x a cs
-  unfolding prefix_of
-  tail_back = refl
-
-  pub laid_length : length cs ≤ 12 → two_in laid ≡ body_length Two (length cs)
-  unfolding prefix_of
-  laid_length m = two_back (body_length Two (length cs)) (drop 2 laid) (omega arith)
-
-  pub laid_header : 1 ≤ length cs → length cs ≤ 12 → Header Two laid
+  pub laid_header : 1 ≤ length cs → Header v (laid v t x a cs)
   unfolding prefix_of tail_head
-  laid_header l m =
+  laid_header l =
       record {
         n = length cs;
         some = l;
         few = m;
-        whole = layout_length Two t x a cs;
-        body = laid_length m;
-        version = refl;
-        count = refl;
+        whole = layout_length v t x a cs;
+        body = laid_length;
+        version = laid_version v t x a cs;
+        count = ap (λ (b : List ℕ). get_or b 32 0) (tail_back v t x a cs);
       }
+
+  pub laid_bytes : AllBytes (laid v t x a cs)
+  unfolding prefix_of tail_head
+  laid_bytes =
+      let n = length cs in
+      let p = fours (take (tank_count v) (tank_figures t)) in
+      let f = fours (courses_figures cs) in
+      let l = bytes_append (fours (site_figures x)) (fours (anchor_figures a) ++ (n ∷ [])) (bytes_fours (site_figures x))
+      (bytes_append (fours (anchor_figures a)) (n ∷ []) (bytes_fours (anchor_figures a)) (bytes_cons n [] (omega (arith, m)) (bytes_fours []))) in
+      bytes_append (two (body_length v n) ++ (version_number v ∷ p)) (tail_of x a cs)
+      (bytes_append (two (body_length v n)) (version_number v ∷ p) (bytes_two (body_length v n)) (bytes_cons (version_number v) p (go v) (bytes_fours (take (tank_count v) (tank_figures t)))))
+      (bytes_append (tail_head x a n) f l (bytes_fours (courses_figures cs)))
+    where
+      go : (v : Version) → version_number v < 256
+      go One = omega arith
+      go Two = omega arith

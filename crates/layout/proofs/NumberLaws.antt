@@ -109,6 +109,33 @@ back_two (a ∷ b ∷ l) k h =
 pub bytes_drop : (b : List ℕ) (i : ℕ) → AllBytes b → AllBytes (drop i b)
 bytes_drop b i k = record { below = λ j. subst (λ (x : ℕ). x < 256) (sym (get_or-drop i b j 0)) (k.below (i + j)) }
 
+-- ---- what is laid out are bytes
+
+bytes_none : AllBytes []
+bytes_none = record { below = λ i. omega arith }
+
+pub bytes_cons : (x : ℕ) (b : List ℕ) → x < 256 → AllBytes b → AllBytes (x ∷ b)
+bytes_cons x b h k = record { below = go }
+  where
+    go : (i : ℕ) → get_or (x ∷ b) i 0 < 256
+    go zero = h
+    go (suc i) = k.below i
+
+pub bytes_append : (a b : List ℕ) → AllBytes a → AllBytes b → AllBytes (a ++ b)
+bytes_append [] b k l = l
+bytes_append (x ∷ a) b k l = bytes_cons x (a ++ b) (k.below 0) (bytes_append a b (bytes_drop (x ∷ a) 1 k) l)
+
+pub bytes_two : (x : ℕ) → AllBytes (two x)
+bytes_two x = bytes_cons (x / 256 % 256) ((x % 256) ∷ []) (omega arith) (bytes_cons (x % 256) [] (omega arith) bytes_none)
+
+bytes_four : (x : ℕ) → AllBytes (four x)
+bytes_four x =
+    bytes_cons (x / 16777216 % 256) ((x / 65536 % 256) ∷ two x) (omega arith) (bytes_cons (x / 65536 % 256) (two x) (omega arith) (bytes_two x))
+
+pub bytes_fours : (xs : List ℕ) → AllBytes (fours xs)
+bytes_fours [] = bytes_none
+bytes_fours (x ∷ xs) = bytes_append (four x) (fours xs) (bytes_four x) (bytes_fours xs)
+
 pub figures_back : (n i : ℕ) (b : List ℕ) → AllBytes b → i + 4 * n ≤ length b → fours (figures_from i n b) ≡ take (4 * n) (drop i b)
 figures_back zero i b k h = refl
 figures_back (suc n) i b k h =

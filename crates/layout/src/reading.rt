@@ -7,7 +7,7 @@ ghost use Rattle.layout.specs.Header.{tank_in, count_of, is_length, version_in, 
 
 use crate::version::Version;
 use entries::{Entry, MOST_COURSES, Tank};
-use fields::Refusal;
+use fields::{Refusal, WATER};
 
 // The version of these bytes. Refused before any step: 11 for under two bytes, 13, 11, 12, 14, 15.
 pub fn version_in(bytes: &[u8]) -> Result<Version, Refusal>
@@ -44,9 +44,6 @@ pub fn count_in(version: Version, bytes: &[u8]) -> usize
 {
     count_of(version, length_in(bytes))
 }
-
-// The gravity of water, in thousandths.
-const WATER: u32 = 1000;
 
 // The tank. Where version 1 is shorter by a figure, the site follows, so all seven are there to read.
 pub fn tank_in(version: Version, bytes: &[u8]) -> Tank

@@ -1,6 +1,6 @@
 -- What the test for 30 asks of a sheet's parts: tank, site, anchors and each course have no flaw, the shell is not too high, and the
--- slots past the count are blank. Before the tank nothing else can have been stated. (`sheet`'s `left_exactly`: the sheets that pass
--- are exactly those that a run of steps leaves.)
+-- slots past the count are blank. Before the tank nothing else can have been stated. What it asks of a bolt size besides is in `sheet`,
+-- as is why it passes exactly the sheets that a run leaves (`left_exactly`).
 use Rattle.std.specs.Prelude.{Bool, true, ◌&&◌, List, ℕ, leb, eqb, length, take, drop, Option, Some, None, is_none}
 use Rattle.std.specs.List.{list_all}
 use Rattle.fields.specs.Order.{clear}

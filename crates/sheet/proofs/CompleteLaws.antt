@@ -27,7 +27,7 @@ use Rattle.parts.specs.Parts.{site_clear, anchors_clear}
 use Rattle.sheet.specs.Steps.{reachable, unreachable}
 use Rattle.sheet.specs.Complete.{incomplete, complete_order, entries_of, courses_of, completed_of, completed_code, code_with, sheet_code, is_thirty, order_after, Valid}
 use Rattle.entries.specs.declared.complete.Entries.{Entries}
-use Rattle.sheet.proofs.ReachLaws.{reach_slots, parts_held, held_some}
+use Rattle.sheet.proofs.ReachLaws.{reach_halves, reach_slots, parts_held, held_some}
 
 -- ---- what the answer comes to
 
@@ -112,7 +112,7 @@ module _ (s : Sheet) (o : IsComplete s) where
   pub valid : Valid (entries_of s)
   valid =
       let w = complete_sheet in
-      let p = parts_held s w.reach (record { entry = tank_of s.tank; is = w.tank }) in
+      let p = parts_held s (reach_halves s w.reach).0 (record { entry = tank_of s.tank; is = w.tank }) in
       let k = reach_slots s w.reach in
       record {
         tank = p.0;

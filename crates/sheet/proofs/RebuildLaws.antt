@@ -1,13 +1,12 @@
--- A reachable sheet is rebuilt by stating what it holds (`rebuilt`); so the test passes exactly the sheets that some run of steps leaves
--- (`left_exactly`).
+-- A consistent sheet is rebuilt by the steps of what it holds, in any version that takes its anchors (`rebuilt`).
+-- (RunLaws: so the test for 30 passes exactly the sheets that some run leaves.)
 -- Assumes nothing.
 use Rattle.entries.specs.declared.sheet.Site.{Site}
 use Rattle.entries.specs.declared.sheet.Anchors.{Anchors}
-use Rattle.std.specs.Prelude.{Option, Some, None, is_none, Ok, Err}
-use mathlib.Core.Path.{◌≡◌, refl, sym, ap, ◌∙◌, subst}
-use mathlib.Core.Bool.{Bool, true}
+use Rattle.std.specs.Prelude.{Option, Some, None, is_none, Ok}
+use mathlib.Core.Path.{◌≡◌, refl, sym, ap, ◌∙◌}
+use mathlib.Core.Bool.{true}
 use mathlib.Core.List.{List, [], ◌∷◌, ◌++◌, map, append-nil}
-use mathlib.Core.Logic.{◌↔◌}
 use Prim.Native.Nat.{ℕ, ◌+◌, ◌-◌, ◌≤◌, ◌<◌}
 use native.Mathlib.Omega.{arith}
 use lib.Dec.{T, eqb}
@@ -15,27 +14,25 @@ use lib.ListN.{length, take, drop, replicate, take-append-drop, length-append, l
 use lib.Seq.{length-take-le, take-append_seam, append_snoc}
 use mir.Facts.{and_yes, eqb_yes}
 use borrow.Author.Tests.{le-ltb}
-use Rattle.fields.specs.declared.refusal.Refusal.{Refusal}
-use Rattle.fields.specs.Order.{Answer, clear}
-use Rattle.fields.proofs.OrderLaws.{first_then, clash, clear_accepted}
+use Rattle.fields.specs.Order.{clear, first_of}
+use Rattle.fields.proofs.OrderLaws.{first_then, clear_accepted}
 use Rattle.entries.specs.Sheet.{course_figures, blank_course, empty_sheet, held, height_of}
 use Rattle.flaws.specs.Flaws.{tank_flaws, site_flaws, anchor_flaws, course_flaws}
-use Rattle.parts.specs.Parts.{blank, site_clear, anchors_clear, courses_clear, courses_blank, parts_reachable}
-use Rattle.sheet.specs.Steps.{accepted, refused, applied, run, LeftByRun, reachable, unless, in_turn}
+use Rattle.parts.specs.Parts.{blank, site_clear, courses_clear, courses_blank}
+use Rattle.layout.specs.declared.version.Version.{Version}
+use Rattle.sheet.specs.Steps.{accepted, applied, size_flaws, consistent, in_turn}
 use Rattle.sheet.specs.declared.steps.Step.{Step}
 use Rattle.sheet.specs.declared.steps.Step.TheVariants.{StateTank, StateSite, StateAnchors, AddCourse}
 use Rattle.entries.specs.declared.sheet.Tank.{Tank}
 use Rattle.entries.specs.declared.sheet.Course.{Course}
 use Rattle.entries.specs.declared.sheet.Sheet.{Sheet}
-use Rattle.sheet.specs.declared.steps.Reply.{Reply}
 use Rattle.lists.specs.Pad.{padded}
-use Rattle.lists.proofs.BoolLaws.{three_yes}
 use Rattle.lists.proofs.PadLaws.{padded_next}
 use Rattle.entries.proofs.CourseLaws.{height_append, height_cons}
 use Rattle.sheet.proofs.StepLaws.{tank_applied, site_applied, anchors_applied, course_applied, turn, turn_accepted}
-use Rattle.sheet.proofs.ReachLaws.{none_stated, Slots, Held, reach_halves, reach_slots, parts_held, empty_reachable, run_reachable}
+use Rattle.sheet.proofs.ReachLaws.{Slots, Held, slots_held, nothing_stated, parts_held}
 
--- ---- a reachable sheet is its parts, with blank slots behind its courses
+-- ---- a consistent sheet is its parts, with blank slots behind its courses
 
 abbrev pub sheet_of : Option Tank → Option Site → Option Anchors → List Course → Sheet
 sheet_of e x a h = record { tank = e; site = x; anchors = a; courses = padded blank_course h; count = length h }
@@ -64,9 +61,9 @@ all_blank (c ∷ cs) h =
     let f = all_blank cs a.1 in
     cc
 
-module _ (s : Sheet) (h : T (reachable s)) where
+module _ (s : Sheet) (h : T (consistent s)) where
   slots : Slots s.courses s.count
-  slots = reach_slots s h
+  slots = slots_held s h
 
   pub held_length : length (held s) ≡ s.count
   held_length = length-take-le s.count s.courses (omega (arith, slots.few, slots.twelve))
@@ -85,26 +82,26 @@ module _ (s : Sheet) (h : T (reachable s)) where
 
 -- ---- it is rebuilt from the empty sheet
 
-module _ (t : Tank) (x : Option Site) (a : Option Anchors) where
+module _ (v : Version) (t : Tank) (x : Option Site) (a : Option Anchors) where
   abbrev with : List Course → Sheet
   with h = sheet_of (Some t) x a h
 
   course_added : (h : List Course) (c : Course) → length h < 12 → T (clear (course_flaws c)) → height_of h + c.width ≤ 76800
-      → applied (with h) (AddCourse c) ≡ accepted (with (h ++ c ∷ []))
+      → applied v (with h) (AddCourse c) ≡ accepted (with (h ++ c ∷ []))
   course_added h c l k m =
       let n : length h + 1 ≡ length (h ++ c ∷ []) = omega (arith, length-append h (c ∷ [])) in
-      course_applied (with h) t refl c l
+      course_applied v (with h) t refl c l
       ∙ rw (first_then (course_flaws c), clear_accepted (course_flaws c) k, take-append_seam h (replicate (12 - length h) blank_course), le-ltb _ _ m)
       (ap (λ (l : List Course). accepted (record { tank = Some t; site = x; anchors = a; courses = l; count = length h + 1 })) (padded_next blank_course h c (length h) refl l)
       ∙ ap (λ (n : ℕ). accepted (record { tank = Some t; site = x; anchors = a; courses = padded blank_course (h ++ c ∷ []); count = n })) n)
 
   courses_added : (rest h : List Course) → length h + length rest ≤ 12 → T (courses_clear rest) → height_of h + height_of rest ≤ 76800
-      → in_turn (with h) (map AddCourse rest) ≡ accepted (with (h ++ rest))
+      → in_turn v (with h) (map AddCourse rest) ≡ accepted (with (h ++ rest))
   unfolding courses_clear
   courses_added [] h l k m = ap (λ (r : List Course). accepted (with r)) (sym (append-nil h))
   courses_added (c ∷ rest) h l k m =
       let d = and_yes (clear (course_flaws c)) (courses_clear rest) k in
-      turn (with h) (AddCourse c) (map AddCourse rest) (course_added h c (omega arith) d.0 (omega (arith, height_cons c rest)))
+      turn v (with h) (AddCourse c) (map AddCourse rest) (course_added h c (omega arith) d.0 (omega (arith, height_cons c rest)))
       ∙ (courses_added rest (h ++ c ∷ []) (omega (arith, length-append h (c ∷ []))) d.1 (omega (arith, height_append h (c ∷ []), height_cons c rest))
       ∙ ap (λ (r : List Course). accepted (with r)) (append_snoc h c rest))
 
@@ -120,84 +117,58 @@ anchors_steps (Some a) = StateAnchors a ∷ []
 abbrev pub steps_of : Tank → Option Site → Option Anchors → List Course → List Step
 steps_of t x a cs = StateTank t ∷ (site_steps x ++ (anchors_steps a ++ map AddCourse cs))
 
-module _ (t : Tank) where
+-- anchors that are not stated, or that a version takes on a tank of diameter D
+abbrev pub Taken : Version → ℕ → Option Anchors → Type 0
+Taken v D None = Unit {0}
+Taken v D (Some a) = first_of (anchor_flaws D a ++ size_flaws v a) ≡ Ok tt
+
+module _ (v : Version) (t : Tank) where
   abbrev bare : Option Site → Option Anchors → Sheet
   bare x a = sheet_of (Some t) x a []
 
   tank_first : T (clear (tank_flaws t))
-      → applied empty_sheet (StateTank t) ≡ accepted (bare None None)
-  tank_first k = tank_applied empty_sheet refl t ∙ rw (clear_accepted (tank_flaws t) k)
+      → applied v empty_sheet (StateTank t) ≡ accepted (bare None None)
+  tank_first k = tank_applied v empty_sheet refl t ∙ rw (clear_accepted (tank_flaws t) k)
 
   site_next : (x : Option Site) (a : Option Anchors) (xs : List Step) → T (site_clear x)
-      → in_turn (bare None a) (site_steps x ++ xs) ≡ in_turn (bare x a) xs
+      → in_turn v (bare None a) (site_steps x ++ xs) ≡ in_turn v (bare x a) xs
   site_next None a xs k = refl
   site_next (Some x) a xs k =
-      turn_accepted (bare None a) (StateSite x) xs (site_applied (bare None a) t refl x) (clear_accepted (site_flaws x) k)
+      turn_accepted v (bare None a) (StateSite x) xs (site_applied v (bare None a) t refl x) (clear_accepted (site_flaws x) k)
 
-  anchors_next : (x : Option Site) (a : Option Anchors) (xs : List Step) → T (anchors_clear t.diameter a)
-      → in_turn (bare x None) (anchors_steps a ++ xs) ≡ in_turn (bare x a) xs
+  anchors_next : (x : Option Site) (a : Option Anchors) (xs : List Step) → Taken v t.diameter a
+      → in_turn v (bare x None) (anchors_steps a ++ xs) ≡ in_turn v (bare x a) xs
   anchors_next x None xs k = refl
   anchors_next x (Some a) xs k =
-      turn_accepted (bare x None) (StateAnchors a) xs (anchors_applied (bare x None) t refl a) (clear_accepted (anchor_flaws t.diameter a) k)
+      turn_accepted v (bare x None) (StateAnchors a) xs (anchors_applied v (bare x None) t refl a) k
 
   all_stated : (x : Option Site) (a : Option Anchors) (cs : List Course)
-      → T (clear (tank_flaws t)) → T (site_clear x) → T (anchors_clear t.diameter a)
+      → T (clear (tank_flaws t)) → T (site_clear x) → Taken v t.diameter a
       → length cs ≤ 12 → T (courses_clear cs) → height_of cs ≤ 76800
-      → in_turn empty_sheet (steps_of t x a cs) ≡ accepted (sheet_of (Some t) x a cs)
+      → in_turn v empty_sheet (steps_of t x a cs) ≡ accepted (sheet_of (Some t) x a cs)
   all_stated x a cs kt kx ka l kc m =
-      turn empty_sheet (StateTank t) (site_steps x ++ (anchors_steps a ++ map AddCourse cs)) (tank_first kt)
+      turn v empty_sheet (StateTank t) (site_steps x ++ (anchors_steps a ++ map AddCourse cs)) (tank_first kt)
       ∙ site_next x None (anchors_steps a ++ map AddCourse cs) kx
       ∙ anchors_next x a (map AddCourse cs) ka
-      ∙ courses_added t x a cs [] (omega arith) kc (omega arith)
+      ∙ courses_added v t x a cs [] (omega arith) kc (omega arith)
 
--- A SHEET THAT PASSES THE TEST IS WHAT ITS OWN STEPS LEAVE
-pub rebuilt : (s : Sheet) → T (reachable s) → (d : Held s.tank)
-    → in_turn empty_sheet (steps_of d.entry s.site s.anchors (held s)) ≡ accepted s
-rebuilt s h d =
+-- A CONSISTENT SHEET IS WHAT ITS OWN STEPS LEAVE
+pub rebuilt : (v : Version) (s : Sheet) → T (consistent s) → (d : Held s.tank) → Taken v d.entry.diameter s.anchors
+    → in_turn v empty_sheet (steps_of d.entry s.site s.anchors (held s)) ≡ accepted s
+rebuilt v s h d k =
     let p = parts_held s h d in
-    let l = reach_slots s h in
-    all_stated d.entry s.site s.anchors (held s) p.0 p.1 p.2 (omega (arith, held_length s h, l.few)) l.clear l.low
+    let l = slots_held s h in
+    all_stated v d.entry s.site s.anchors (held s) p.0 p.1 k (omega (arith, held_length s h, l.few)) l.clear l.low
     ∙ ap (λ (e : Option Tank). accepted (sheet_of e s.site s.anchors (held s))) (sym d.is)
     ∙ ap accepted (sym (as_parts s h))
 
--- ---- and so by a run
-
-pub refused_accepted : (r : Refusal) (s t : Sheet) → refused r s ≡ accepted t → ⊥
-refused_accepted r s t e = clash (ap (λ (y : Reply). y.answer) e)
-
-pub in_turn_run : (xs : List Step) (s t : Sheet) → in_turn s xs ≡ accepted t → run s xs ≡ t
-in_turn_run [] s t e = ap (λ (r : Reply). r.sheet) e
-in_turn_run (x ∷ xs) s t e = go (applied s x).answer (in_turn_run xs (applied s x).sheet t) e
-  where
-    go : (a : Answer) → (in_turn (applied s x).sheet xs ≡ accepted t → run (applied s x).sheet xs ≡ t)
-        → unless a (in_turn (applied s x).sheet xs) ≡ accepted t → run (applied s x).sheet xs ≡ t
-    go (Ok u) f e = f e
-    go (Err r) f e = absurd (refused_accepted r empty_sheet t e)
-
-no_tank_empty : (s : Sheet) → T (reachable s) → s.tank ≡ None → s ≡ empty_sheet
+-- and one without a tank is empty
+pub no_tank_empty : (s : Sheet) → T (consistent s) → s.tank ≡ None → s ≡ empty_sheet
 no_tank_empty s h e =
-    let b = three_yes (is_none s.site) (is_none s.anchors) (eqb s.count 0)
-    (subst (λ (e : Option Tank). T (parts_reachable e s.site s.anchors s.count)) e (reach_halves s h).1) in
-    let n : s.count ≡ 0 = eqb_yes b.2 in
-    let x : s.site ≡ None = none_stated s.site b.0 in
-    let a : s.anchors ≡ None = none_stated s.anchors b.1 in
-    let c : held s ≡ [] = ap (λ (k : ℕ). take k s.courses) n in
+    let b = nothing_stated s h (ap is_none e) in
+    let c : held s ≡ [] = ap (λ (k : ℕ). take k s.courses) b.2 in
     as_parts s h
     ∙ ap (λ (e : Option Tank). sheet_of e s.site s.anchors (held s)) e
-    ∙ ap (λ (x : Option Site). sheet_of None x s.anchors (held s)) x
-    ∙ ap (λ (a : Option Anchors). sheet_of None None a (held s)) a
+    ∙ ap (λ (x : Option Site). sheet_of None x s.anchors (held s)) b.0
+    ∙ ap (λ (a : Option Anchors). sheet_of None None a (held s)) b.1
     ∙ ap (λ (l : List Course). sheet_of None None None l) c
-
-reachable_left : (s : Sheet) (e : Option Tank) → s.tank ≡ e → T (reachable s) → LeftByRun s
-reachable_left s None e h = record { steps = []; leaves = sym (no_tank_empty s h e) }
-reachable_left s (Some t) e h =
-    let xs = steps_of t s.site s.anchors (held s) in
-    record { steps = xs; leaves = in_turn_run xs empty_sheet s (rebuilt s h (record { entry = t; is = e })) }
-
--- REFUSAL 30 IS FOR EXACTLY THE SHEETS THAT NO RUN OF STEPS LEAVES
-pub left_exactly : (s : Sheet) → T (reachable s) ↔ LeftByRun s
-left_exactly s =
-    (reachable_left s s.tank refl, λ l. subst (λ (t : Sheet). T (reachable t)) l.leaves (run_reachable l.steps empty_sheet empty_reachable))
-
-pub left_clauses : (s : Sheet) {b : Bool} → b ≡ reachable s → (b ≡ reachable s) × (T b ↔ LeftByRun s)
-left_clauses s {b} e = (e, subst (λ (z : Bool). T z ↔ LeftByRun s) (sym e) (left_exactly s))

@@ -84,8 +84,8 @@ abbrev pub order_after : Result Entries Refusal → List Condition → List Cond
 order_after (Ok e) between after = between ++ after
 order_after (Err r) between after = cond (is_thirty r) [] between ++ (r when true) ∷ []
 
--- What steps leave in a complete sheet: no entry has a flaw, there is a course, and the shell is not too high. A clause, and no ghost field
--- of `Entries`: `entries_of` makes entries of any sheet.
+-- What a run leaves in a complete sheet: no entry has a flaw (size 6 is none), there is a course, and the shell is not too high. A clause, and
+-- no ghost field of `Entries`: `entries_of` makes entries of any sheet.
 pub record Valid (e : Entries) : Type 0 where
   pub tank : T (clear (tank_flaws e.tank))
   pub site : T (clear (site_flaws e.site))

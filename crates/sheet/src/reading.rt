@@ -1,6 +1,6 @@
 // A sheet out of bytes (document 01, "Filling in" and "Order"). What each step would be refused for is tested as it
 // comes, and the sheet is made once, at the end: a sheet after each step would be copied each time. 30 is not tested,
-// since steps leave this sheet.
+// since a run leaves this sheet.
 ghost use Rattle.std.specs.Prelude.{◌≡◌, ◌≤◌, length};
 ghost use Rattle.fields.specs.Order.{answer_code};
 ghost use Rattle.entries.specs.Sheet.{empty_sheet};
@@ -22,9 +22,8 @@ pub struct Reading {
     pub height: u64,
 }
 
-// The sheet that these bytes are; written again it has the same bytes, or of version 1 those of version 2. Beside a refusal it is
-// empty. Refused:
-// 11 for under two bytes, 13, 11, 12, 14, 15, and then as the steps are.
+// The sheet that these bytes are; written again it has the same bytes, or of version 1 those of version 2, but for size 6, which is read
+// in version 1 and not written. Beside a refusal it is empty. Refused: 11 for under two bytes, 13, 11, 12, 14, 15, and then as the steps are.
 pub fn read(bytes: &[u8]) -> Reply
     ensures value { result ≡ read_in bytes.now }
     ensures code { answer_code result.answer ≡ read_code bytes.now }
@@ -54,7 +53,7 @@ pub fn read_with_height(bytes: &[u8]) -> Result<Reading, Refusal>
 // The steps that the bytes hold, in turn: tank, site and anchors, and then the courses.
 fn read_entries(version: Version, bytes: &[u8]) -> Result<Reading, Refusal>
     requires { Header version bytes.now }
-    ensures { result ≡ with_height (in_turn empty_sheet (steps_in version bytes.now)) }
+    ensures { result ≡ with_height (in_turn version empty_sheet (steps_in version bytes.now)) }
 {
     let tank = layout::reading::tank_in(version, bytes);
     flaws::tank_flaw(tank)?;
@@ -62,12 +61,12 @@ fn read_entries(version: Version, bytes: &[u8]) -> Result<Reading, Refusal>
     let site: Site = layout::reading::entry_at(tail, 0);
     flaws::site_flaw(site)?;
     let anchors: Anchors = layout::reading::entry_at(tail, 20);
-    flaws::anchors_flaw(tank.diameter, anchors)?;
+    steps::anchors_flaw_in(version, tank.diameter, anchors)?;
     let n = layout::reading::count_in(version, bytes);
     read_courses(tank, site, anchors, tail, n)
 }
 
-// By places, since slot and bytes are counted alike: by `zip` it is no shorter. At most twelve, for the slots.
+// Alike in both versions. By places, since slot and bytes are counted alike: by `zip` it is no shorter. At most twelve, for the slots.
 fn read_courses(
     tank: Tank,
     site: Site,
@@ -76,7 +75,7 @@ fn read_courses(
     n: usize,
 ) -> Result<Reading, Refusal>
     requires { (tail_length n ≤ length tail.now) × (n ≤ 12) }
-    ensures { result ≡ with_height (in_turn (before_courses tank site anchors) (from_courses n tail.now)) }
+    ensures { result ≡ with_height (in_turn Version.Two (before_courses tank site anchors) (from_courses n tail.now)) }
 {
     let mut courses = [Course::blank(); MOST_COURSES];
     let mut height: u64 = 0;

@@ -1,13 +1,14 @@
-// The steps that fill a sheet in (document 01, "Filling in" and "Order"). A refused step gives back
-// the sheet that was handed in.
+// The steps that fill a sheet in (document 01, "Filling in" and "Order"; document 02, S-10). A refused step
+// gives back the sheet that was handed in.
 ghost use Rattle.std.specs.Prelude.{◌≡◌, [], ◌∷◌, ◌++◌, ◌≤◌, T, ltb};
 ghost use Rattle.fields.specs.Order.{◌when◌, first_of, reply_unless, answer_code, first_code};
-ghost use Rattle.flaws.specs.Flaws.{too_high, course_flaws};
-ghost use Rattle.sheet.specs.Steps.{order_of, filled, anchors_after, reachable, unreachable, stated};
+ghost use Rattle.flaws.specs.Flaws.{too_high, anchor_flaws, course_flaws};
+ghost use Rattle.sheet.specs.Steps.{size_flaws, order_of, filled, anchors_after, reachable, unreachable, stated};
 
 use crate::reach;
 use entries::{Anchors, Course, MOST_COURSES, MOST_HEIGHT, Sheet, Site, Tank};
 use fields::Refusal;
+use layout::version::Version;
 use parts::slots;
 
 // A step, with the figures that it states.
@@ -17,7 +18,7 @@ pub enum Step {
     StateTank(Tank),
     // Fields 7 to 11; the later ones count. Refused: 30, 32, 16.
     StateSite(Site),
-    // Fields 12 to 14; the later ones count. Refused: 30, 32, 16, 18.
+    // Fields 12 to 14; the later ones count. Refused: 30, 32, 16, 18, 39.
     StateAnchors(Anchors),
     // Fields 15 to 19, of the next course up. Refused: 30, 32, 33, 16, 17, 34.
     AddCourse(Course),
@@ -34,7 +35,7 @@ pub struct Reply {
 // Beside a refusal the sheet that was handed in (`read` has the empty one there, so the two matches differ).
 pub fn take(s: Sheet, step: Step) -> Reply
     ensures value { result ≡ stated s step }
-    ensures code { answer_code result.answer ≡ first_code (unreachable s ∷ order_of s step) }
+    ensures code { answer_code result.answer ≡ first_code (unreachable s ∷ order_of Version.Two s step) }
     ensures anchors { result.sheet.anchors ≡ anchors_after s.anchors step result.answer }
 {
     match after(s, step) {
@@ -51,7 +52,7 @@ pub fn take(s: Sheet, step: Step) -> Reply
 
 // The sheet that a step leaves. By a match, since the four take figures of different types.
 fn after(s: Sheet, step: Step) -> Result<Sheet, Refusal>
-    ensures { result ≡ reply_unless (first_of (unreachable s ∷ order_of s step)) (filled s step) }
+    ensures { result ≡ reply_unless (first_of (unreachable s ∷ order_of Version.Two s step)) (filled s step) }
 {
     if !reach::is_reachable(s) {
         return Err(Refusal::Unreachable);
@@ -66,7 +67,7 @@ fn after(s: Sheet, step: Step) -> Result<Sheet, Refusal>
 
 // The steps without their test for 30.
 fn state_tank(s: Sheet, t: Tank) -> Result<Sheet, Refusal>
-    ensures { result ≡ reply_unless (first_of (order_of s (Step.StateTank t))) (filled s (Step.StateTank t)) }
+    ensures { result ≡ reply_unless (first_of (order_of Version.Two s (Step.StateTank t))) (filled s (Step.StateTank t)) }
 {
     if s.tank.is_some() {
         return Err(Refusal::TankStated);
@@ -76,7 +77,7 @@ fn state_tank(s: Sheet, t: Tank) -> Result<Sheet, Refusal>
 }
 
 fn state_site(s: Sheet, x: Site) -> Result<Sheet, Refusal>
-    ensures { result ≡ reply_unless (first_of (order_of s (Step.StateSite x))) (filled s (Step.StateSite x)) }
+    ensures { result ≡ reply_unless (first_of (order_of Version.Two s (Step.StateSite x))) (filled s (Step.StateSite x)) }
 {
     s.tank.ok_or(Refusal::NoTank)?;
     flaws::site_flaw(x)?;
@@ -84,14 +85,25 @@ fn state_site(s: Sheet, x: Site) -> Result<Sheet, Refusal>
 }
 
 fn state_anchors(s: Sheet, a: Anchors) -> Result<Sheet, Refusal>
-    ensures { result ≡ reply_unless (first_of (order_of s (Step.StateAnchors a))) (filled s (Step.StateAnchors a)) }
+    ensures { result ≡ reply_unless (first_of (order_of Version.Two s (Step.StateAnchors a))) (filled s (Step.StateAnchors a)) }
 {
     let tank = s.tank.ok_or(Refusal::NoTank)?;
-    flaws::anchors_flaw(tank.diameter, a)?;
+    anchors_flaw_in(Version::Two, tank.diameter, a)?;
     Ok(Sheet {
         anchors: Some(a),
         ..s
     })
+}
+
+// What anchors are refused for on a tank of this diameter: 16, 18, and 39 but in version 1.
+pub(crate) fn anchors_flaw_in(version: Version, diameter: u32, a: Anchors) -> Result<(), Refusal>
+    ensures { result ≡ first_of (anchor_flaws diameter a ++ size_flaws version a) }
+{
+    flaws::anchors_flaw(diameter, a)?;
+    match version {
+        Version::One => Ok(()),
+        Version::Two => flaws::size_flaw(a),
+    }
 }
 
 // What a course is refused for on courses of this height: 16, 17, 34.
@@ -115,7 +127,7 @@ fn check_height(height: u64) -> Result<(), Refusal>
 
 fn add_course(s: Sheet, c: Course) -> Result<Sheet, Refusal>
     requires { T (reachable s) }
-    ensures { result ≡ reply_unless (first_of (order_of s (Step.AddCourse c))) (filled s (Step.AddCourse c)) }
+    ensures { result ≡ reply_unless (first_of (order_of Version.Two s (Step.AddCourse c))) (filled s (Step.AddCourse c)) }
 {
     s.tank.ok_or(Refusal::NoTank)?;
     let n = s.count;

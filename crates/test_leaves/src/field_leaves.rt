@@ -19,7 +19,7 @@ fn yes_or_no(b: bool) -> &'static str {
     if b { "yes" } else { "no" }
 }
 
-// The refusals in the order of their numbers. The place is the vectors', and is matched here alone.
+// The refusals in the order of their numbers, and 39, which came later. The place is the vectors', and is matched here alone.
 fn refusal(place: u64, field: u32) -> Refusal {
     match place {
         0 => Refusal::TooFewBytes,
@@ -45,6 +45,7 @@ fn refusal(place: u64, field: u32) -> Refusal {
         20 => Refusal::BadMethod,
         21 => Refusal::ShellUplift,
         22 => Refusal::NotSlender,
-        _ => Refusal::MomentTooLarge,
+        23 => Refusal::MomentTooLarge,
+        _ => Refusal::SizeDiscontinued,
     }
 }

@@ -31,7 +31,7 @@ impl<'a> Figures<'a> {
         E::with(array::from_fn(|_| self.figure()))
     }
 
-    // A sheet with exactly these figures, whether a run of steps leaves it or not. Each of the entries before the
+    // A sheet with exactly these figures, whether a run leaves it or not. Each of the entries before the
     // count is stated where the figure ahead of it is not 0. (A usize is not From a u32.)
     pub(crate) fn sheet(&mut self) -> Sheet {
         let tank = (self.figure() != 0).then_some(self.entry());

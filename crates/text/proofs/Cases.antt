@@ -22,7 +22,7 @@ use Rattle.sheet.specs.Writing.{bytes_of}
 use Rattle.sheet.specs.Reading.{steps_in, read_in}
 use Rattle.flaws.specs.Flaws.{bad_anchors, tank_flaws, site_flaws, anchor_flaws, course_flaws}
 use Rattle.parts.specs.Parts.{courses_clear, courses_blank, slots_reachable}
-use Rattle.sheet.specs.Steps.{applied, reachable}
+use Rattle.sheet.specs.Steps.{applied, consistent, reachable}
 use Rattle.claims.specs.Figures.{resistance_on}
 use Rattle.claims.specs.Report.{line_of, self_checks, anchor_checks, standing_of, courses_hold, word_of, report_of}
 use Rattle.claims.specs.Judging.{judged, refused_for}
@@ -33,7 +33,7 @@ use Rattle.text.specs.Marking.{marked_text}
 use Rattle.text.specs.Cases.{PrintedCase, printed_cases, refusals, refusal_texts}
 
 pub printed_cases_lem : map (λ (c : PrintedCase). marked_text c.bytes) printed_cases ≡ map (λ (c : PrintedCase). c.text) printed_cases
-unfolding up_of up_to up_ℤ tried low_bits greatest_below root_of in_chart stress_area within between reduced_weight pull_exact pull_of larger_pull spacing_verdict strength_verdict wind_verdict shell_exact shell_weight root_yield root_most bottom_root cap_exact bottom_cap bottom_weight resistance_of uplift_of quake_verdict head_of design_head hoop_exact hoop_need is_method method_of plate_floor required_plate course_verdict verdict_of pressure_exact pressure_of moment_exact moment_of clear four_in prefix_of tail_head bytes_of steps_in is_length version_for read_in bad_anchors tank_flaws site_flaws anchor_flaws course_flaws applied courses_clear courses_blank slots_reachable reachable resistance_on line_of self_checks anchor_checks standing_of courses_hold word_of report_of judged marked decimal text_of marked_text
+unfolding up_of up_to up_ℤ tried low_bits greatest_below root_of in_chart stress_area within between reduced_weight pull_exact pull_of larger_pull spacing_verdict strength_verdict wind_verdict shell_exact shell_weight root_yield root_most bottom_root cap_exact bottom_cap bottom_weight resistance_of uplift_of quake_verdict head_of design_head hoop_exact hoop_need is_method method_of plate_floor required_plate course_verdict verdict_of pressure_exact pressure_of moment_exact moment_of clear four_in prefix_of tail_head bytes_of steps_in is_length version_for read_in bad_anchors tank_flaws site_flaws anchor_flaws course_flaws applied courses_clear courses_blank slots_reachable consistent reachable resistance_on line_of self_checks anchor_checks standing_of courses_hold word_of report_of judged marked decimal text_of marked_text
 printed_cases_lem = refl
 
 pub refusal_texts_lem : map (λ (r : Refusal). text_of (refused_for r)) refusals ≡ refusal_texts

@@ -13,14 +13,14 @@ use Rattle.fields.specs.declared.refusal.Refusal.TheVariants.{TooManyBytes, BadL
 use Rattle.fields.specs.Order.{Answer, first_of}
 use Rattle.rules.specs.Method.{method_number}
 use Rattle.rules.specs.declared.method.Method.TheVariants.{D100}
-use Rattle.entries.specs.Sheet.{empty_sheet}
 use Rattle.layout.specs.Numbers.{two_in}
 use Rattle.layout.specs.declared.version.Version.{Version}
 use Rattle.layout.specs.declared.version.Version.TheVariants.{One, Two}
 use Rattle.layout.specs.Header.{is_length, version_for, version_in, read_order}
 use Rattle.layout.proofs.HeaderLaws.{length_of, no_length, too_many}
-use Rattle.sheet.specs.Steps.{unless, in_turn}
-use Rattle.sheet.specs.Reading.{steps_in, read_in}
+use Rattle.sheet.specs.Steps.{unless}
+use Rattle.sheet.specs.Reading.{read_in}
+use Rattle.sheet.proofs.AnswerLaws.{turned}
 use Rattle.claims.specs.Judging.{unless_refused, refused_for, judged}
 use Rattle.lines.specs.Text.{text_of}
 use Rattle.marking.specs.Marking.{marked}
@@ -46,7 +46,7 @@ answered b h = go (is_length (version_in b) (two_in b)) refl
 too_long_lem : (b : List ℕ) → most_bytes ≤ length b → marked b ≡ refused_for (too_long (two_in b))
 unfolding read_in marked
 too_long_lem b h =
-    ap (λ (a : Answer). unless_refused (unless a (in_turn empty_sheet (steps_in (version_in b) b))).answer (judged (method_number D100) (read_in b).sheet)) (answered b h)
+    ap (λ (a : Answer). unless_refused (unless a (turned b)).answer (judged (method_number D100) (read_in b).sheet)) (answered b h)
 
 pub most_bytes_lem : MOST_BYTES ≡ most_bytes
 most_bytes_lem = refl

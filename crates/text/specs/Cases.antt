@@ -1,15 +1,15 @@
 -- What document 01 prints, "The example tank": its text, with the earthquake pull of document 02, S-5, and the needs of S-7, and that with
 -- its line for N = 0; that of the tank of S-3, on which the methods differ; the example's from its bytes of version 1, and with liquor in it
--- (S-8); and, by its rule, refusals.
+-- (S-8); on bolts of size 6, by either version (S-10); and, by its rule, refusals.
 use Rattle.std.specs.Prelude.{List, [], ◌∷◌, ◌++◌, ℕ}
 use Rattle.fields.specs.declared.refusal.Refusal.{Refusal}
-use Rattle.fields.specs.declared.refusal.Refusal.TheVariants.{TooFewBytes, TooManyBytes, BadLength, BadVersion, BadCount, OutOfRange, AllowanceNotBelowPlate, BadAnchors, BufferTooShort, Unreachable, TankStated, NoTank, CoursesFull, ShellTooHigh, NoCourse, NoSite, WaterAboveShell, AnchorsUnstated, FigureOutOfRange, BadSiteClass, BadMethod, ShellUplift, NotSlender, MomentTooLarge}
+use Rattle.fields.specs.declared.refusal.Refusal.TheVariants.{TooFewBytes, TooManyBytes, BadLength, BadVersion, BadCount, OutOfRange, AllowanceNotBelowPlate, BadAnchors, BufferTooShort, Unreachable, TankStated, NoTank, CoursesFull, ShellTooHigh, NoCourse, NoSite, WaterAboveShell, AnchorsUnstated, SizeDiscontinued, FigureOutOfRange, BadSiteClass, BadMethod, ShellUplift, NotSlender, MomentTooLarge}
 use Rattle.lists.specs.Ascii.{ascii}
 use Rattle.entries.specs.Sheet.{no_anchors}
 use Rattle.entries.specs.declared.sheet.Sheet.{Sheet}
 use Rattle.sheet.specs.Complete.{entries_of}
 use Rattle.sheet.specs.Writing.{bytes_of}
-use Rattle.layout.specs.Cases.{old_bytes, example_bytes, liquor_bytes}
+use Rattle.layout.specs.Cases.{old_bytes, old_with, new_with, example_bytes, liquor_bytes}
 use Rattle.claims.specs.Cases.{example_of, example_with, source002_with}
 
 pub record PrintedCase : Type 0 where
@@ -33,6 +33,8 @@ abbrev pub printed_cases : List PrintedCase
 printed_cases =
     prints example_bytes (up_to_wind ++ on_anchors ++ ascii "tank sound\n")
     ∷ prints old_bytes (up_to_wind ++ on_anchors ++ ascii "tank sound\n")
+    ∷ prints (old_with 6) (up_to_wind ++ on_anchors ++ ascii "tank sound\n")
+    ∷ prints (new_with 6) (ascii "refused 39\n")
     ∷ prints liquor_bytes
     (ascii "course 1 70 188 250 ok\ncourse 2 45 188 250 ok\ncourse 3 25 188 250 ok\nwind 2123 73371\n" ++ on_anchors ++ ascii "tank sound\n")
     -- by D100; by API 650 its first course needs 50, which with c comes to just the floor, and the tank would be sound
@@ -70,6 +72,7 @@ refusals =
     ∷ NoSite
     ∷ WaterAboveShell
     ∷ AnchorsUnstated
+    ∷ SizeDiscontinued
     ∷ FigureOutOfRange
     ∷ BadSiteClass
     ∷ BadMethod
@@ -100,6 +103,7 @@ refusal_texts =
     ∷ ascii "refused 36\n"
     ∷ ascii "refused 37\n"
     ∷ ascii "refused 38\n"
+    ∷ ascii "refused 39\n"
     ∷ ascii "refused 40\n"
     ∷ ascii "refused 41\n"
     ∷ ascii "refused 42\n"

@@ -7,7 +7,7 @@ use Rattle.layout.specs.Header.{version_in, read_order, Header}
 use Rattle.layout.proofs.HeaderLaws.{header}
 use Rattle.sheet.specs.Steps.{unless, in_turn}
 use Rattle.sheet.specs.Reading.{steps_in, read_in, with_height}
-use Rattle.sheet.proofs.AnswerLaws.{height_clauses}
+use Rattle.sheet.proofs.AnswerLaws.{turned, height_clauses}
 use Rattle.sheet.proofs.reading.read_with_height.Goals as goal
 
 pub returns-in_err-version : goal.returns-in_err-version
@@ -15,7 +15,7 @@ unfolding read_in
 returns-in_err-version c =
     let b = c.args.bytes.now in
     let e = (reply_refused (version_in b) (first_of (read_order b)) _).0 (sym c.version_in.ensures.value ∙ c.in_err-version.was) in
-    let r = height_clauses b (passed_on _ _ c.from_residual.ensures.1 ∙ ap (λ a. with_height (unless a (in_turn empty_sheet (steps_in (version_in b) b)))) (sym e)) in
+    let r = height_clauses b (passed_on _ _ c.from_residual.ensures.1 ∙ ap (λ a. with_height (unless a (turned b))) (sym e)) in
     record { value = r.0; code = r.1 }
 
 pub read_entries-requires : goal.read_entries-requires
@@ -30,6 +30,6 @@ returns c =
     let b = c.args.bytes.now in
     let g = reply_given (version_in b) (first_of (read_order b)) (sym c.version_in.ensures.value ∙ c.in_ok-version.was) in
     let r = height_clauses b (c.read_entries.ensures
-    ∙ ap (λ v. with_height (in_turn empty_sheet (steps_in v b))) g.1
-    ∙ ap (λ a. with_height (unless a (in_turn empty_sheet (steps_in (version_in b) b)))) (sym g.0)) in
+    ∙ ap (λ v. with_height (in_turn v empty_sheet (steps_in v b))) g.1
+    ∙ ap (λ a. with_height (unless a (turned b))) (sym g.0)) in
     record { value = r.0; code = r.1 }

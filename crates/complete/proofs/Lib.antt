@@ -1,0 +1,2 @@
+-- What the clauses of reading and writing come to.
+pub mod Promised
