@@ -60,13 +60,13 @@ pub fn site(f: [u32; 5]) -> Result<(), Refusal> {
 
 /// Size 6 is refused 39 but in version 1.
 #[inline(always)]
-pub fn anchors(diameter: u32, f: [u32; 3], number: u8) -> Result<(), Refusal> {
+pub fn anchors(diameter: u32, f: [u32; 3], version: u8) -> Result<(), Refusal> {
     in_ranges(12, f)?;
     let [number, circle, size] = f;
     let bad = if number == 0 { circle != 0 || size != 0 } else { circle < diameter || stress_area(size) == 0 };
     match () {
         _ if bad => Err((18, 0)),
-        _ if size == 6 && number != 1 => Err((39, 0)),
+        _ if size == 6 && version != 1 => Err((39, 0)),
         _ => Ok(()),
     }
 }
