@@ -1,15 +1,19 @@
 """The oracle's command line.
 
-python3 oracle make           writes what the programs read and are to write, beside each, and the
-                              replies in the files of cases/
-python3 oracle check          makes the same again and compares it with what is stored
-python3 oracle groups         lists which records, lines and sheets each group has
-python3 oracle sheet FIGURES  writes the bytes, of version 2, of the sheet with these figures
-python3 oracle ask FIGURES    writes the record that asks about compression, by D100, on that sheet
-python3 oracle text SHEET     writes what the marker is to print for these bytes
-python3 oracle try PROGRAM    runs the built marker on inputs fed in unusual ways
+python3 oracle make               writes what the programs read and are to write, beside each, and
+                                  the replies in the files of cases/
+python3 oracle check              makes the same again and compares it with what is stored
+python3 oracle groups             lists which records, lines, sheets and files each group has
+python3 oracle sheet FIGURES      writes the bytes, of version 2, of the sheet with these figures
+python3 oracle ask FIGURES        writes the record that asks about compression, by D100, on that
+                                  sheet
+python3 oracle text SHEET         writes what the marker is to print for these bytes
+python3 oracle try PROGRAM        runs the built marker on inputs fed in unusual ways
+python3 oracle tally FILE         writes what the tallier is to print for these bytes
+python3 oracle try-tally PROGRAM  runs the built tallier on all files that the oracle has for it
 
-FIGURES (see oracle/example.txt) and SHEET are files, or - for standard input.
+FIGURES (see oracle/example.txt), SHEET and FILE (of sheets end to end) are files, or - for standard
+input.
 """
 
 import sys
@@ -20,22 +24,23 @@ from pathlib import Path
 
 from model import (
     arithmetic, as_printed, compression, demand_3, demand_3_liquor, fields, filling_in, ground,
-    judging, printing, refusals, sheet_bytes, slender, tank_rules,
+    judging, printing, refusals, sheet_bytes, slender, tally, tank_rules,
 )
 from vectors import (
     case_files, case_vectors, compression_groups, compression_later_groups, current_sheet_groups,
     figure_lines, judge_groups, judge_later_groups, leaf_lines, leaf_liquor, leaf_size_6,
     leaf_slender, liquor_points, marker_groups, marker_tries, need_points, steps_groups,
-    steps_later_groups, steps_size_6_groups, stored_files,
+    steps_later_groups, steps_size_6_groups, stored_files, tally_groups, tally_tries,
 )
 
 ROOT = Path(__file__).resolve().parent.parent
 QUICK = (fields, refusals, arithmetic, tank_rules, as_printed, ground, filling_in, sheet_bytes,
-         judging, demand_3, demand_3_liquor, compression, slender, printing, need_points,
-         liquor_points, figure_lines, marker_tries)
+         judging, demand_3, demand_3_liquor, compression, slender, printing, tally, need_points,
+         liquor_points, figure_lines, marker_tries, tally_tries)
 VECTORS = (case_vectors, leaf_lines, leaf_liquor, leaf_slender, leaf_size_6, steps_groups,
            judge_groups, current_sheet_groups, compression_groups, judge_later_groups,
-           steps_later_groups, compression_later_groups, steps_size_6_groups, marker_groups)
+           steps_later_groups, compression_later_groups, steps_size_6_groups, marker_groups,
+           tally_groups)
 
 # --- make, check and groups ---------------------------------------------------
 
@@ -71,7 +76,7 @@ def groups():
     return 0
 
 
-# --- sheet, ask and text ------------------------------------------------------
+# --- sheet, ask, text and tally ------------------------------------------------
 
 
 def convert(conversion, name):
@@ -94,6 +99,8 @@ FILE_COMMANDS = {
     "ask": lambda name: convert(figure_lines.compression_record_of, name),
     "text": lambda name: convert(printing.marked_text, name),
     "try": marker_tries.try_program,
+    "tally": lambda name: convert(tally.tallied_text, name),
+    "try-tally": tally_tries.try_program,
 }
 
 

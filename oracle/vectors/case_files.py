@@ -6,13 +6,14 @@ writes them anew. A file starts from an empty sheet, and each question finds the
 above it leave:
 
 clear                               begins anew
-request S-8, S-9 or S-10            begins anew: what follows came with that request (see below)
+request S-8, S-9, S-10 or S-11      begins anew: what follows came with that request (see below)
 tank, site, anchors, course ..      the steps, with their figures; `anchors none` is N = 0, and a
                                     tank's gravity may be left out: it is 1,000 then
 read HEX                            the sheet of these bytes is the held one, or the empty one
 write [SIZE]                        into a buffer of SIZE bytes, or of as many as the sheet needs
 judge, uses, compression [METHOD]   1 (D100) or 2 (API 650); 1 where it is left out
 mark HEX                            what the printing program writes for these bytes
+tally HEX                           what the tallier writes for a file of these bytes (S-11)
 pressure SPEED                      on the standard site (S-4)
 ground CLASS SS S1                  S-2
 moment D H GRAVITY WS XS WR XR AI AC        S-9
@@ -30,7 +31,7 @@ from functools import cache
 from pathlib import Path
 from typing import Callable, NamedTuple
 
-from model import ground, judging, printing, slender
+from model import ground, judging, printing, slender, tally
 from model.fields import ENTRIES, TABLE, Course
 from model.filling_in import EMPTY, SELF_ANCHORED, Sheet
 from model.refusals import D100, MOST_COURSES, standard_site_refusal
@@ -48,10 +49,10 @@ from vectors.version_1 import sheet_as_bytes
 
 FOLDER = Path(__file__).resolve().parent.parent.parent / "cases"
 NAMES = ("steps", "read", "write", "judge", "marker", "pressure", "compression", "ground",
-         "moment")
+         "moment", "tally")
 FILL = 200              # the first byte of a lent buffer; the others count up from it
 PRESSURE_LEAF, GROUND_LEAF, SLENDER_LEAF = 27, 40, 41
-REQUESTS = ("S-8", "S-9", "S-10")       # that have a part of their own in a file
+REQUESTS = ("S-8", "S-9", "S-10", "S-11")       # that have a part of their own in a file
 
 
 class Mistake(Exception):
@@ -219,6 +220,7 @@ class Tried(NamedTuple):
     record: records.Record | None = None        # for test_steps
     content: bytes | None = None    # for test_sheets
     leaf: str | None = None         # for test_leaves: a line
+    file: bytes | None = None       # for the tallier
     request: str = ""               # with which it came
 
 
@@ -284,6 +286,12 @@ def mark(question, sheet):
     return Tried(question, sheet, tuple(lines), content=content)
 
 
+def tally_of(question, sheet):
+    content = bytes_in(question, MOST_BYTES)
+    lines = tally.tallied_text(content).decode("ascii").splitlines()
+    return Tried(question, sheet, tuple(lines), file=content)
+
+
 def pressure(question, sheet):
     (speed,) = figures_in(question, question.words[1:], "SPEED")
     refusal = standard_site_refusal(speed)
@@ -334,7 +342,7 @@ def put(question, sheet):
 WORDS: dict[str, Callable] = {
     "clear": clear, "request": request, **dict.fromkeys(TABLE, step), "read": read, "write": write,
     "judge": judge,
-    "uses": uses, "compression": compression, "mark": mark, "pressure": pressure,
+    "uses": uses, "compression": compression, "mark": mark, "tally": tally_of, "pressure": pressure,
     "ground": ground_motion, "moment": slender_moment, "put": put,
 }
 

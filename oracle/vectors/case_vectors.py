@@ -57,13 +57,17 @@ class Cases(NamedTuple):
         """For test_leaves."""
         return self.group_of("leaf")
 
+    def group_files(self):
+        """Bytes, for the tallier."""
+        return self.group_of("file")
+
 
 @cache
 def outcomes_of(cases):
     return list(outcomes(cases.all_records()))
 
 
-BEFORE, S_8, S_9, S_10 = map(Cases, ("", *REQUESTS))
+BEFORE, S_8, S_9, S_10, S_11 = map(Cases, ("", *REQUESTS))
 
 
 # --- Self test ----------------------------------------------------------------
@@ -96,6 +100,9 @@ tank 14400 28800 11000 250 0 36000 1,300
 request S-9
 moment 12,000 12,000 1,000 5,000 7,200 1,000 14,400 200 50
 moment 12,000 12,000 1,000 5,000 7,200 1,000 14,400 200 1,001
+request S-11
+tally
+tally 00
 """
 REPLIES = """\
 # The example tank, with a comma
@@ -154,13 +161,28 @@ moment 12,000 12,000 1,000 5,000 7,200 1,000 14,400 200 50
     moment 39920
 moment 12,000 12,000 1,000 5,000 7,200 1,000 14,400 200 1,001
     refused 40
+request S-11
+tally
+    read 0
+    sound 0
+    short 0
+    refused 0
+    sum 0
+    least none
+tally 00
+    read 1
+    sound 0
+    short 0
+    refused 1
+    sum 0
+    least none
 """
 MISTAKES = (        # lines, and how the mistake in them is said
     ("\ntonk 1", "line 2: 'tonk' is none of clear, request, tank, site, anchors, course, read, "
-                 "write, judge, uses, compression, mark, pressure, ground, moment, put"),
+                 "write, judge, uses, compression, mark, tally, pressure, ground, moment, put"),
     ("tank 1 2 3 4 5", "line 1: these are 5 figures, not D H W plate allowance Fy gravity"),
     ("tank 1 2 3 4 5 6 7 8", "line 1: these are 8 figures, not D H W plate allowance Fy gravity"),
-    ("request S-7", "line 1: a request is one of S-8, S-9, S-10"),
+    ("request S-7", "line 1: a request is one of S-8, S-9, S-10, S-11"),
     ("anchors 6 14,80 8", "line 1: '14,80' is not a whole number"),
     ("anchors 6 4,294,967,296 8", "line 1: 4,294,967,296 is above 4294967295"),
     ("clear\nread 0x00", "line 2: these are no bytes, of two hexadecimal digits each"),
@@ -172,6 +194,7 @@ MISTAKES = (        # lines, and how the mistake in them is said
     ("put course 1", "line 1: tank, site, anchors, slot or count can be put"),
     ("put", "line 1: tank, site, anchors, slot or count can be put"),
     ("ground CC 240 93", "line 1: a class is one letter"),
+    ("tally 0", "line 1: these are no bytes, of two hexadecimal digits each"),
     ("pressure", "line 1: these are 0 figures, not SPEED"),
     ("moment 1 2", "line 1: these are 2 figures, not D H GRAVITY WS XS WR XR AI AC"),
     ("clear all", "line 1: clear stands alone"),
@@ -192,8 +215,8 @@ def check_lines():
     assert written_out(tried) == REPLIES, written_out(tried)
     assert written_out(tried_in("steps", REPLIES)) == REPLIES
     assert any(one.sheet == EXAMPLE for one in tried)
-    assert [one.request for one in tried][-6:] == ["S-8"] * 3 + ["S-9"] * 3
-    assert tried[-7].request == ""
+    assert [one.request for one in tried][-9:] == ["S-8"] * 3 + ["S-9"] * 3 + ["S-11"] * 3
+    assert tried[-10].request == ""
     for text, said in MISTAKES:
         assert mistake_in(text) == said, (said, mistake_in(text))
 
@@ -214,6 +237,10 @@ def check_files():
         assert {"judge", "marker"} <= {*cases.group_sheets()}
         assert {"steps", "read", "write", "judge", "compression"} <= {*cases.group_records()}
     assert not S_10.group_leaf_lines()
+    assert {*S_11.group_files()} == {"tally"}           # and nothing else
+    assert not S_11.group_records() and not S_11.group_sheets() and not S_11.group_leaf_lines()
+    for cases in (BEFORE, S_8, S_9, S_10):
+        assert not cases.group_files()
 
 
 def self_test():

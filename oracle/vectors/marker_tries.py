@@ -10,6 +10,7 @@ import os
 import subprocess
 import sys
 import termios
+import threading
 import time
 from typing import Callable, NamedTuple
 
@@ -124,6 +125,14 @@ def ended(process):
     return Ended(stdout, stderr, process.returncode)
 
 
+def killed_late(process):
+    """Lest somebody who feeds it waits for it forever; to be cancelled."""
+    late = threading.Timer(PATIENCE, process.kill)
+    late.daemon = True
+    late.start()
+    return late
+
+
 def unread(pipe):
     """How many bytes in the pipe nobody has read yet."""
     return int.from_bytes(fcntl.ioctl(pipe, termios.FIONREAD, bytes(4)), sys.byteorder)
@@ -134,6 +143,7 @@ def fed(pieces):
     def run(program):
         process = started(program, stdin=subprocess.PIPE, bufsize=0)
         deadline = time.monotonic() + FEEDING
+        late = killed_late(process)
         try:
             for piece in pieces:
                 process.stdin.write(piece)
@@ -142,6 +152,8 @@ def fed(pieces):
                     time.sleep(PAUSE)
         except BrokenPipeError:     # it has read as many as it wants
             pass
+        finally:
+            late.cancel()
         return ended(process)
     return run
 

@@ -10,6 +10,7 @@ from vectors import (
     case_files, case_vectors, compression_groups, compression_later_groups, current_sheet_groups,
     judge_cases, judge_groups, judge_later_groups, leaf_lines, leaf_liquor, leaf_size_6,
     leaf_slender, marker_groups, records, steps_groups, steps_later_groups, steps_size_6_groups,
+    tally_groups,
 )
 from vectors.start_sheets import EXAMPLE_BYTES
 
@@ -22,6 +23,8 @@ MARKER_STDIN = "crates/marker/stdin"            # one sheet
 MARKER_STDOUT = "crates/marker/stdout"
 SHEETS_STDIN = "crates/test_sheets/stdin"       # sheets, each with its count of bytes
 SHEETS_STDOUT = "crates/test_sheets/stdout"
+TALLIER_STDIN = "crates/tallier/stdin"          # sheets end to end
+TALLIER_STDOUT = "crates/tallier/stdout"        # their tally
 MOST_RECORDS = 100_000                          # that the program reads
 
 # --- Records ------------------------------------------------------------------
@@ -110,10 +113,15 @@ def sheet_files():
             SHEETS_STDOUT: b"".join(marker_groups.texts())}
 
 
+def tallier_files():
+    return {TALLIER_STDIN: tally_groups.stored_stdin(),
+            TALLIER_STDOUT: tally_groups.stored_stdout()}
+
+
 def made_files():
     """Name, relative to the repository's root, to bytes."""
     return {**leaf_files(), EXAMPLE_STDOUT: printing.judged_text(EXAMPLE), **step_files(),
-            **marker_files(), **sheet_files(), **case_files.made_files()}
+            **marker_files(), **sheet_files(), **tallier_files(), **case_files.made_files()}
 
 
 def made_count(name, content):
@@ -127,6 +135,7 @@ def made_count(name, content):
         MARKER_STDIN: lambda: "1 sheet",
         SHEETS_STDIN: marker_groups.sheets_summary,
         SHEETS_STDOUT: lambda: f"{lines} ({marker_groups.texts_summary()})",
+        TALLIER_STDIN: tally_groups.stored_summary,
     }
     return counts[name]() if name in counts else lines
 
@@ -149,6 +158,7 @@ PARTS = {   # of the files in which parts are numbered, not lines; `groups` list
     MARKER_STDIN: ("sheet", lambda: [EXAMPLE_BYTES]),
     SHEETS_STDIN: ("sheet", marker_groups.stdin_parts),
     SHEETS_STDOUT: ("the text of sheet", marker_groups.texts),
+    TALLIER_STDIN: ("sheet", tally_groups.stored_sheets),
 }
 
 
@@ -192,3 +202,7 @@ def group_lines():
         yield f"sheets_{line}"
     yield f"sheets: {marker_groups.sheets_summary()}; {marker_groups.texts_summary()}"
     yield from records.group_lines(leaf_groups())       # lines of test_leaves
+    for line in records.group_lines(tally_groups.stored_groups()):
+        yield f"tallied_{line}"
+    yield f"tallied: {tally_groups.stored_summary()}"
+    yield from tally_groups.group_lines()

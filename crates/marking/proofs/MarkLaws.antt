@@ -47,7 +47,7 @@ read_valid b e k = go (read_in b).answer k
 pub bytes_valid : (b : List ℕ) {c : Result Entries Refusal} → c ≡ read_completed b → ForOk c Valid
 bytes_valid b q e k = (read_valid b e (sym q ∙ k)).1
 
-marked_completed : (b : List ℕ) → marked b ≡ judged_completed by_d100 (read_completed b)
+pub marked_completed : (b : List ℕ) → marked b ≡ judged_completed by_d100 (read_completed b)
 unfolding marked read_completed
 marked_completed b = go (read_in b).answer
   where
@@ -88,7 +88,7 @@ answer_code_lem : (a : Answer) (j : Judgement) → answer_code (unless_refused a
 answer_code_lem (Ok u) j = refl
 answer_code_lem (Err r) j = rw (never_zero r)
 
-mark_code_lem : (b : List ℕ) → answer_code (marked b).answer ≡ mark_code b
+pub mark_code_lem : (b : List ℕ) → answer_code (marked b).answer ≡ mark_code b
 unfolding marked mark_code
 mark_code_lem b =
     answer_code_lem (read_in b).answer (judged by_d100 (read_in b).sheet)

@@ -27,11 +27,13 @@ sizes_of (Err small) = record { bytes = 0; long = small.needed }
 unfoldable pub printed_sizes : List ℕ → ℕ → PrintSizes
 printed_sizes t room = record { bytes = cond (leb (length t) room) (length t) 0; long = length t }
 
--- All that is promised of a reply, and of the buffer after it.
+-- All that is promised of a reply, and of the buffer after it; and of the text of a judgement, which has a bound.
+abbrev pub Copies : List ℕ → List ℕ → Result ℕ TooSmall → List ℕ → Type 0
+Copies t buf r buf' =
+    (r ≡ (printed t buf).answer) × ((buf' ≡ (printed t buf).buffer) × (sizes_of r ≡ printed_sizes t (length buf)))
+
 abbrev pub Prints : List ℕ → List ℕ → Result ℕ TooSmall → List ℕ → Type 0
-Prints t buf r buf' =
-    (r ≡ (printed t buf).answer)
-    × ((buf' ≡ (printed t buf).buffer) × ((sizes_of r ≡ printed_sizes t (length buf)) × (length t ≤ most_text)))
+Prints t buf r buf' = Copies t buf r buf' × (length t ≤ most_text)
 
 -- how a program prints that the buffer is too small
 abbrev pub printed_need : TooSmall → List ℕ

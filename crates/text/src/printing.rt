@@ -48,10 +48,20 @@ fn print_small(j: Judgement, out: &mut [u8]) -> Result<usize, TooSmall>
 {
     let mut space = [0u8; MOST_TEXT];
     let size = lines::put_text(&mut space, j);
+    copy(&space[..size], out)
+}
+
+// The same of a text that stands in another buffer.
+pub fn copy(text: &[u8], out: &mut [u8]) -> Result<usize, TooSmall>
+    ensures value { result ≡ (printed text.now out.old).answer }
+    ensures buffer { out.new ≡ (printed text.now out.old).buffer }
+    ensures code { sizes_of result ≡ printed_sizes text.now (length out.old) }
+{
+    let size = text.len();
     if out.len() < size {
         return Err(TooSmall { needed: size });
     }
-    out[..size].copy_from_slice(&space[..size]);
+    out[..size].copy_from_slice(text);
     Ok(size)
 }
 

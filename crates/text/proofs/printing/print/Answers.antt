@@ -8,4 +8,4 @@ pub returns : goal.returns
 returns c = let a = c.args in
     let p = c.put_text.ensures in
     let q = whole (text_of a.j) a.out.now (omega (arith, p.stored.after)) p.upper_bound p.stored in
-    record { value = q.0; buffer = q.1.0; code = q.1.1.0; j_len_bound = q.1.1.1 }
+    record { value = q.0.0; buffer = q.0.1.0; code = q.0.1.1; j_len_bound = q.1 }

@@ -1,0 +1,2 @@
+-- The laws that callers' proofs cite.
+pub mod BufferLaws

@@ -1,0 +1,5 @@
+pub mod Tally
+pub mod Parts
+pub mod Stream
+pub mod Files
+pub mod Cases
