@@ -138,20 +138,26 @@ def unread(pipe):
     return int.from_bytes(fcntl.ioctl(pipe, termios.FIONREAD, bytes(4)), sys.byteorder)
 
 
-def fed(pieces):
+def feed(process, pieces):
     """Each piece is written when the one before it is read, so that no read gets two."""
+    deadline = time.monotonic() + FEEDING
+    try:
+        for piece in pieces:
+            process.stdin.write(piece)
+            while unread(process.stdin) and process.poll() is None \
+                    and time.monotonic() < deadline:
+                time.sleep(PAUSE)
+    except BrokenPipeError:     # it has read as many as it wants
+        pass
+
+
+def fed(pieces):
+    """Piece by piece, and then the pipe is closed."""
     def run(program):
         process = started(program, stdin=subprocess.PIPE, bufsize=0)
-        deadline = time.monotonic() + FEEDING
         late = killed_late(process)
         try:
-            for piece in pieces:
-                process.stdin.write(piece)
-                while unread(process.stdin) and process.poll() is None \
-                        and time.monotonic() < deadline:
-                    time.sleep(PAUSE)
-        except BrokenPipeError:     # it has read as many as it wants
-            pass
+            feed(process, pieces)
         finally:
             late.cancel()
         return ended(process)

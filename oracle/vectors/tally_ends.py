@@ -1,7 +1,11 @@
 """The tallier: where a file ends, cut sheets, and lengths that are none."""
 
+from itertools import product
+
 from model import tally
-from model.sheet_bytes import GOOD_LENGTHS, LAYOUTS, LENGTH_BYTES, VERSION_1, by_length
+from model.sheet_bytes import (
+    GOOD_LENGTHS, LAYOUTS, LENGTH_BYTES, VERSION_1, VERSION_AT, by_length, length_in,
+)
 from vectors.byte_changes import with_length
 from vectors.tally_cases import ABOVE, BELOW, JUST, by_differences, refused, tallied
 
@@ -113,11 +117,55 @@ def usable_lengths():
         yield tallied(f"{L}", "3 1 1 1 -63 -63", JUST, length(L), b"\xff" * L, BELOW)
 
 
+# --- Ended by a length that is none --------------------------------------------
+
+# The ends, and those beside the least and the greatest usable ones of either version.
+NEAREST = (0, 1, 77, 79, 81, 83, 297, 299, 301, 303, 65_535)
+
+
+def sheets_before():
+    """Name to the figures with 13 behind them, and the sheets: none, one, and of either version a
+    sound, a short and a refused one."""
+    several = [sheet for layout in LAYOUTS for sheet in (
+        by_differences(6, layout=layout), by_differences(-63, layout=layout),
+        refused(37, by_differences(6, layout=layout, H=2_401)))]
+    return {"at the start": ("1 0 0 1 0 none", []), "behind a sheet": ("2 1 0 1 6 6", [ABOVE]),
+            "behind six sheets": ("7 2 2 3 -114 -63", several)}
+
+
+def that_an_unusable_length_ends():
+    """Fed through a pipe that stays open. "13, 11": the two bytes of the length are enough for 13,
+    however many follow; "at 11 or 13 it counts one refused and stops". So neither the bytes that
+    the length asks for are waited for, nor the file's end, which 11 alone is told by."""
+    for L, (place, (figures, before)) in product(NEAREST, sheets_before().items()):
+        for name, behind in (("nothing", b""), ("a byte", b"\0"), ("a sheet", JUST)):
+            yield tallied(f"{L} {place}, {name} behind it", figures, *before, length(L), behind)
+
+
 GROUPS = (short_files, cuts, cuts_after_refusals, unusable_lengths, unusable_lengths_of_sheets,
           usable_lengths)
+HELD_OPEN = (that_an_unusable_length_ends,)
 
 
 # --- Self test ----------------------------------------------------------------
+
+
+def check_held_open():
+    """Each of the lengths ends a file, with nothing, a byte and a sheet behind it, at the start,
+    behind a sheet, and behind sheets of either version and each word; it is no usable one, and a
+    usable one is beside it, but for the ends."""
+    assert not {*NEAREST} & {*USABLE}
+    assert {L for L in NEAREST if {L - 1, L + 1} & {*USABLE}} == {*NEAREST[2:-1]}
+    found, kinds = [], set()
+    for group in HELD_OPEN:
+        for file in group():
+            *before, (own, last) = tally.sheets_in(file.content)
+            assert last.refusal == (13, 0) and len(own) == LENGTH_BYTES, file.name
+            behind = len(file.content) - sum(len(one) for one, _sheet in before) - LENGTH_BYTES
+            found.append((length_in(own), len(before), behind))
+            kinds.update((one[VERSION_AT], sheet.word) for one, sheet in before)
+    assert found == [*product(NEAREST, (0, 1, 6), (0, 1, len(JUST)))]
+    assert kinds == {*product((1, 2), tally.WORDS)}
 
 
 def self_test():
@@ -132,3 +180,4 @@ def self_test():
     for file in (*unusable_lengths(), *unusable_lengths_of_sheets()):
         *_before, (own, last) = tally.sheets_in(file.content)
         assert last.refusal == (13, 0) and len(own) == LENGTH_BYTES, file.name
+    check_held_open()

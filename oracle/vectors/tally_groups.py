@@ -18,7 +18,7 @@ from vectors.tally_readings import ASTRAY, ASTRAY_AT_THE_MOST, RIGHT, figures_re
 
 BY_HAND = (*tally_ends.GROUPS, *tally_refusals.GROUPS, *tally_sums.GROUPS)
 AT_THE_MOST = tally_most.GROUPS
-HELD_OPEN = tally_most.HELD_OPEN        # fed through a pipe that stays open
+HELD_OPEN = (*tally_most.HELD_OPEN, *tally_ends.HELD_OPEN)  # fed through a pipe that stays open
 AT_RANDOM = tally_random.GROUPS
 MOST_READ_ASTRAY = 100_000              # bytes of the files that each reading is held against
 LEAST_TOLD = 2

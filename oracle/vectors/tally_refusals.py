@@ -2,6 +2,8 @@
 versions side by side.
 """
 
+from itertools import cycle
+
 from model.fields import COURSE_FIELDS, FIELD_RANGES, GRAVITY_FIELD
 from model.sheet_bytes import LAYOUTS, VERSION_1, VERSION_2, VERSION_AT, by_length, length_in
 from vectors.byte_changes import with_byte, with_length
@@ -76,6 +78,19 @@ def refused_sheets(layout):
 def all_refused():
     return {name: content for layout in LAYOUTS
             for name, content in refused_sheets(layout).items()}
+
+
+def number_of(content):
+    """Of its refusal."""
+    number, _field = marked(content).answer.refusal
+    return number
+
+
+def one_of_each():
+    """A sheet of each refusal, in turn of version 1 and 2; 39 is of version 2 alone."""
+    in_turn = cycle([refused_sheets(layout).values() for layout in LAYOUTS])
+    for number, sheets in zip(GOES_ON_AFTER, in_turn):
+        yield next(content for content in sheets if number_of(content) == number)
 
 
 # --- Groups -------------------------------------------------------------------
@@ -175,7 +190,7 @@ GROUPS = (refused_in_the_middle, refused_first_and_last, all_refusals_in_one, ne
 
 def self_test():
     """Every refusal, 16 with every field, those of judging among them; each has a usable length and
-    as many bytes as that says."""
+    as many bytes as that says. One of each is one of each, and of both versions in turn."""
     found = set()
     for name, content in all_refused().items():
         refusal = marked(content).answer.refusal
@@ -183,5 +198,8 @@ def self_test():
         layout, n = by_length(length_in(content))
         assert len(content) == layout.bytes_with(n), name
     assert {number for number, _field in found} == {*GOES_ON_AFTER}
+    each = [*one_of_each()]
+    assert [number_of(content) for content in each] == [*GOES_ON_AFTER]
+    assert [by_length(length_in(content))[0] for content in each] == [*LAYOUTS] * 4
     assert {field for number, field in found if number == 16} == {*FIELD_RANGES}
     assert GRAVITY_FIELD in {field for _number, field in found}

@@ -2,9 +2,11 @@
 
 `python3 oracle try-tally PROGRAM` feeds them as a file and through pipes, whole and in pieces; some
 through a pipe that stays open, and some in ways in which a read fails. What the program prints is
-to be the oracle's text, with nothing on standard error and an exit status of 0. Where a read fails
-"the tally of a part must not pass for that of the whole": nothing is printed, and the status is
-another; what is on standard error is open.
+to be the oracle's text, with nothing on standard error and an exit status of 0. The documents do
+not say what is due where a read fails. Decided here: the tally of a part must not pass for that of
+the whole, so nothing is printed, and the status is another; what is on standard error is open.
+Behind 13 the program "stops": it waits for nothing there, makes no read that could fail, and its
+text is due.
 """
 
 import os
@@ -20,9 +22,11 @@ from model import tally
 from model.sheet_bytes import VERSION_1
 from vectors import tally_groups, tally_random
 from vectors.marker_tries import (
-    PATIENCE, Ended, closed, ended, fed, killed_late, opened, started,
+    PATIENCE, Ended, closed, ended, fed, feed, killed_late, opened, started,
 )
 from vectors.tally_cases import ABOVE, BELOW, JUST, by_differences
+from vectors.tally_ends import length
+from vectors.tally_refusals import GOES_ON_AFTER, one_of_each
 from vectors.tally_sums import HIGH
 
 SHOWN = 40          # complaints, at most; the others are counted
@@ -56,17 +60,24 @@ def through_pipe(content):
 
 def held_open(content):
     """Nobody closes the pipe before the program ends: it must not wait for more."""
+    return fed_and_held_open([content])
+
+
+def fed_and_held_open(pieces):
+    """The same, piece by piece."""
     def run(program):
         process = started(program, stdin=subprocess.PIPE, bufsize=0)
         late = killed_late(process)
-        try:
-            process.stdin.write(content)
-        except BrokenPipeError:     # it has read as many as it wants
-            pass
+        feed(process, pieces)
         process.wait()
         late.cancel()
         return ended(process)
     return run
+
+
+def last_two_parted(content):
+    """The same, and the last two bytes, those of a length, come one by one."""
+    return fed_and_held_open([content[:-1], content[-1:]])
 
 
 def until_a_read_fails(content):
@@ -126,11 +137,17 @@ SMALL = b"".join((ABOVE, by_differences(3, -4, 62, layout=VERSION_1), HIGH,
                   by_differences(-5, gravity=1_300), JUST))
 STOPPED = ABOVE + BELOW + b"\0\x4f" + ABOVE         # 13, and a sheet behind it
 SMALL_SIZES = (1, 2, 3, 5, 7, 61, 79, 80, 81, 83, 84, 85, 303, 304, 305)
+SOME_SIZES = (5, 61, 83, 84)        # of these, for a longer file: see FEEDING
 LARGE_SIZES = (303, 304, 305, 1_021, 4_095, 4_096, 4_097, 65_535, 65_536, 65_537)
 LARGE = 400_000     # bytes, about
 MOST_PIECES = 150
 EACH_OF = 40        # random files of which one is fed in pieces
 BOTH_WAYS = 60      # files of a group at most that are fed both ways
+
+
+def each_refusal():
+    """A file with each that it goes on after; sound sheets are before, between and behind."""
+    return ABOVE + b"".join(content + ABOVE for content in one_of_each())
 
 
 def small_in_pieces():
@@ -139,6 +156,9 @@ def small_in_pieces():
                           ("a cut file", SMALL[:-1]), ("a byte too many", SMALL + b"\0")):
         for size in SMALL_SIZES:
             yield try_on(f"{name}, in pieces of {size}", content, in_pieces_of(size))
+    refusals = each_refusal()
+    for size in SOME_SIZES:
+        yield try_on(f"each refusal, in pieces of {size}", refusals, in_pieces_of(size))
     rng = Random(124)
     for number in range(30):
         sizes = [rng.choice((1, 2, 3, rng.randint(1, 100))) for _ in range(50)]
@@ -177,17 +197,21 @@ def each_file():
 
 
 def kept_waiting():
-    """The most sheets, through a pipe that stays open."""
+    """The most sheets, and lengths that are none, through a pipe that stays open; two of these
+    lengths in two pieces too, of which the first alone says nothing."""
     for group in tally_groups.HELD_OPEN:
         for file in group():
             yield Try(f"{group.__name__}: {file.name}", tally.text_of(file.made),
                       held_open(file.content))
+    yield try_on("79 in two pieces, at the start", length(79), last_two_parted)
+    yield try_on("303 in two pieces, behind a small file", SMALL + length(303), last_two_parted)
 
 
 def failing_reads():
     """At once; and after some bytes, where no tally of them may be printed: behind whole sheets,
-    within a sheet, within its length. Behind 13 or the 10,000th sheet the program need not read,
-    and what it does there is open: none of these."""
+    within a sheet, within its length. Behind 13 none fails: the program "stops", so it makes no
+    read there, and the tally is due. Behind the 10,000th sheet it need not read, and what it does
+    there is open: none of these, and a terminal does not hold that many bytes."""
     yield Try("a directory", None, opened("/"))
     yield Try("a closed standard input", None, closed)
     yield Try("a file that is not open for reading", None, opened(os.devnull, os.O_WRONLY))
@@ -199,6 +223,12 @@ def failing_reads():
                           ("a small file and a byte", SMALL + b"\0"),
                           ("a refused sheet", HIGH), ("a cut file", SMALL[:-1])):
         yield Try(f"a read that fails behind {name}", None, until_a_read_fails(content))
+    for name, content in (("13", length(79)), ("13, the greatest", length(65_535)),
+                          ("a sheet and 13", ABOVE + length(303)),
+                          ("a small file and 13", SMALL + length(0)),
+                          ("13 and a byte", SMALL + length(81) + b"\0"),
+                          ("13 and a sheet", STOPPED)):
+        yield try_on(f"a read that is not made, behind {name}", content, until_a_read_fails)
 
 
 def all_tries():
@@ -256,12 +286,17 @@ def try_program(path):
 
 
 def self_test():
-    """What is fed in pieces has every word; 6 and 3 - 4 + 62 and -5 and 0 are 62. Pieces are the
-    whole again, and no piece is empty."""
+    """What is fed in pieces has every word; 6 and 3 - 4 + 62 and -5 and 0 are 62. Nine sheets of 6
+    are around one of each refusal. Pieces are the whole again, and no piece is empty."""
     assert tally.tally(SMALL) == (5, 2, 2, 1, 62, -5)
     assert tally.tally(STOPPED) == (3, 1, 1, 1, -57, -63)
     assert tally.tally(SMALL[:-1]) == (5, 1, 2, 2, 62, -5)
     assert tally.tally(SMALL + b"\0") == (6, 2, 2, 2, 62, -5)
+    assert tally.tally(each_refusal()) == (17, 9, 0, 8, 54, 6)
+    refusals = [sheet.refusal for _own, sheet in tally.sheets_in(each_refusal())]
+    assert refusals[::2] == [None] * 9
+    assert [number for number, _field in refusals[1::2]] == [*GOES_ON_AFTER]
+    assert {*SOME_SIZES} <= {*SMALL_SIZES}
     for sizes in ((1,), (84,), (3, 1, 500)):
         pieces = cut_into(SMALL, sizes)
         assert b"".join(pieces) == SMALL and b"" not in pieces

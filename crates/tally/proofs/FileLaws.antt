@@ -11,7 +11,7 @@ use native.Mathlib.Decide.{dec_le}
 use native.Mathlib.Omega.{arith}
 use lib.Dec.{T, eqb, ltb}
 use lib.ListN.{length, drop_of_length-le, length-take}
-use lib.Seq.{take_all, get_or-take}
+use lib.Seq.{take_all}
 use mir.Facts.{and_yes}
 use borrow.Author.Tests.{le-ltb, lt-ltb, eqb-true}
 use Rattle.std.specs.List.{concat, list_all}
@@ -36,8 +36,11 @@ use Rattle.reports.specs.declared.report.Judgement.{Judgement}
 use Rattle.marking.specs.Marking.{marked, mark_code}
 use Rattle.marking.proofs.MarkLaws.{mark_code_lem}
 use Rattle.tally.specs.Tally.{own_length, own_bytes, after_own, is_stop, stops, judgements, tally_of, tallied, most_sheets}
-use Rattle.tally.specs.Files.{is_usable, WholeSheet, EachWhole, NoSheet}
-use Rattle.tally.proofs.CutLaws.{same_bytes, same_after}
+use Rattle.tally.specs.Parts.{no_tally, counted, counted_all, is_usable, has_bad_length, AfterPart, after_part}
+use Rattle.tally.specs.Stream.{after_bytes}
+use Rattle.tally.specs.declared.tally.Tally.{Tally}
+use Rattle.tally.specs.Files.{WholeSheet, EachWhole, NoSheet}
+use Rattle.tally.proofs.CutLaws.{bad_from, own_two, bad_marked, same_bytes, same_after, whole_ready, bad_ready}
 
 -- ---- which answers stop it
 
@@ -98,7 +101,7 @@ whole_code b w =
     (unless_other (first_code (read_order b)) (turn_code (version_in b) empty_sheet (steps_in (version_in b) b)) (first_other (read_order b) (whole_other b w)) (turns_other (version_in b) (steps_in (version_in b) b) empty_sheet))
     (first_other (judge_order (method_number D100) (read_in b).sheet) (judge_other (read_in b).sheet))
 
-early_stops : (n : ℕ) → is_early n ≡ false → (eqb n 11 || eqb n 13) ≡ false
+early_stops : (n : ℕ) → is_early n ≡ false → is_stop n ≡ false
 unfolding is_early
 early_stops n = go (eqb n 11) (eqb n 12) (eqb n 13)
   where
@@ -108,48 +111,45 @@ early_stops n = go (eqb n 11) (eqb n 12) (eqb n 13)
     go false false c e = e
 
 goes_on : (b : List ℕ) → WholeSheet b → stops (marked b) ≡ false
-goes_on b w = ap is_stop (mark_code_lem b) ∙ early_stops (mark_code b).number (whole_code b w)
+goes_on b w = ap (λ (p : Code). is_stop p.number) (mark_code_lem b) ∙ early_stops (mark_code b).number (whole_code b w)
 
 -- BYTES WHERE NO SHEET CAN BE FOUND STOP IT
-own_two : (b : List ℕ) → two_in (own_bytes b) ≡ two_in b
-own_two b = omega (arith, get_or-take (own_length b) b 0 0 (omega arith), get_or-take (own_length b) b 1 0 (omega arith))
-
 no_sheet_left : (b : List ℕ) → NoSheet b → NoSheet (own_bytes b)
 no_sheet_left b (inl e) = inl (ap is_usable (own_two b) ∙ e)
 no_sheet_left b (inr l) = inr (omega (arith, own_two b, length-take (own_length b) b))
 
-first_stops : (b : List ℕ) → NoSheet b → is_stop (first_code (read_order b)) ≡ true
+first_stops : (b : List ℕ) → NoSheet b → is_stop (first_code (read_order b)).number ≡ true
 first_stops b h = go (ltb (length b) 2) (is_usable (two_in b)) (ltb (length b) (2 + two_in b)) _ (test h)
   where
     test : NoSheet b → (is_usable (two_in b) ≡ false) ⊎ (ltb (length b) (2 + two_in b) ≡ true)
     test (inl e) = inl e
     test (inr l) = inr (lt-ltb _ _ l)
 
-    go : (x u y : Bool) (p : Code) → (u ≡ false) ⊎ (y ≡ true) → is_stop (cond x (plain 11) (cond (not u) (plain 13) (cond y (plain 11) p))) ≡ true
+    go : (x u y : Bool) (p : Code) → (u ≡ false) ⊎ (y ≡ true) → is_stop (cond x (plain 11) (cond (not u) (plain 13) (cond y (plain 11) p))).number ≡ true
     go true u y p h = refl
     go false false y p h = refl
     go false true true p h = refl
     go false true false p (inl e) = absurd (subst T e tt)
     go false true false p (inr e) = absurd (subst T (sym e) tt)
 
-stop_stays : (p q : Code) → is_stop p ≡ true → unless_code p q ≡ p
+stop_stays : (p q : Code) → is_stop p.number ≡ true → unless_code p q ≡ p
 stop_stays p q h = go (eqb p.number 0) refl
   where
     go : (b : Bool) → eqb p.number 0 ≡ b → cond b q p ≡ p
-    go true e = let z : p.number ≡ 0 = eqb-true _ _ e in absurd (subst T (sym (sym (ap (λ (n : ℕ). eqb n 11 || eqb n 13) z) ∙ h)) tt)
+    go true e = let z : p.number ≡ 0 = eqb-true _ _ e in absurd (subst T (sym (sym (ap is_stop z) ∙ h)) tt)
     go false e = refl
 
-stop_code : (b : List ℕ) → NoSheet b → is_stop (mark_code (own_bytes b)) ≡ true
+stop_code : (b : List ℕ) → NoSheet b → is_stop (mark_code (own_bytes b)).number ≡ true
 unfolding mark_code read_code
 stop_code b h =
     let o = own_bytes b in
     let f = first_stops o (no_sheet_left b h) in
     let r : read_code o ≡ first_code (read_order o) = stop_stays (first_code (read_order o)) (turn_code (version_in o) empty_sheet (steps_in (version_in o) o)) f in
-    let g : is_stop (read_code o) ≡ true = ap is_stop r ∙ f in
-    ap is_stop (stop_stays (read_code o) (judge_code (method_number D100) (read_in o).sheet) g) ∙ g
+    let g : is_stop (read_code o).number ≡ true = ap (λ (p : Code). is_stop p.number) r ∙ f in
+    ap (λ (p : Code). is_stop p.number) (stop_stays (read_code o) (judge_code (method_number D100) (read_in o).sheet) g) ∙ g
 
 stops_here : (b : List ℕ) → NoSheet b → stops (marked (own_bytes b)) ≡ true
-stops_here b h = ap is_stop (mark_code_lem (own_bytes b)) ∙ stop_code b h
+stops_here b h = ap (λ (p : Code). is_stop p.number) (mark_code_lem (own_bytes b)) ∙ stop_code b h
 
 -- ---- FILES: WHOLE SHEETS END TO END, AND NOTHING BEHIND THEM, OR NO SHEET; AND AFTER THE 10,000TH ANYTHING
 
@@ -210,6 +210,43 @@ ended_file bs r w h some e =
     (rw n at (all_read bs r (suc (9999 - length bs)) w)
     ∙ ap (λ (js : List Judgement). map marked bs ++ js) (one_left r (9999 - length bs) some e))
 
+-- ---- AND NO MORE IS NEEDED: after the 10,000th sheet, nor behind a length that no sheet has
+
+one_part : (b r : List ℕ) (room : ℕ) (t : Tally) → WholeSheet b → after_part (suc room) t false (b ++ r) ≡ after_part room (counted t (marked b)) false r
+unfolding after_part
+one_part b r room t w =
+    let h : own_length b ≤ length b = omega (arith, w.whole) in
+    let own : own_bytes (b ++ r) ≡ b = same_bytes b r h ∙ take_all (own_length b) b (omega (arith, w.whole)) in
+    let after : after_own (b ++ r) ≡ r = same_after b r h ∙ ap (λ (y : List ℕ). y ++ r) (drop_of_length-le b (omega (arith, w.whole))) in
+    rw (whole_ready b r h, own, after, goes_on b w) refl
+
+all_part : (bs : List (List ℕ)) (r : List ℕ) (room : ℕ) (t : Tally) → EachWhole bs
+    → after_part (length bs + room) t false (concat bs ++ r) ≡ after_part room (counted_all t (map marked bs)) false r
+all_part [] r room t w = ap (λ (n : ℕ). after_part n t false r) (zero-add room)
+all_part (b ∷ bs) r room t w =
+    let n : suc (length bs) + room ≡ suc (length bs + room) = omega arith in
+    rw (n, append_assoc b (concat bs) r) (one_part b (concat bs ++ r) (length bs + room) t w.0 ∙ all_part bs r room (counted t (marked b)) w.1)
+
+none_after : (t : Tally) (r : List ℕ) → (after_part 0 t false r).progress.room ≡ 0
+unfolding after_part
+none_after t r = refl
+
+pub enough_at_the_most : (bs : List (List ℕ)) (r : List ℕ) → EachWhole bs → length bs ≡ 10000 → (after_bytes (concat bs ++ r)).progress.room ≡ 0
+enough_at_the_most bs r w h =
+    let n : length bs + 0 ≡ most_sheets = omega (arith, h) in
+    ap (λ (l : AfterPart). l.progress.room) (rw n at (all_part bs r 0 no_tally w)) ∙ none_after (counted_all no_tally (map marked bs)) r
+
+bad_part : (r : List ℕ) (room : ℕ) (t : Tally) → has_bad_length r ≡ true → (after_part (suc room) t false r).progress.room ≡ 0
+unfolding after_part
+bad_part r room t e = rw (bad_ready r e, bad_marked r e) refl
+
+pub enough_at_a_bad_length : (bs : List (List ℕ)) (r : List ℕ) → EachWhole bs → length bs < 10000 → 2 ≤ length r → is_usable (two_in r) ≡ false
+    → (after_bytes (concat bs ++ r)).progress.room ≡ 0
+enough_at_a_bad_length bs r w h some u =
+    let n : length bs + suc (9999 - length bs) ≡ most_sheets = omega (arith, h) in
+    ap (λ (l : AfterPart). l.progress.room) (rw n at (all_part bs r (suc (9999 - length bs)) no_tally w))
+    ∙ bad_part r (9999 - length bs) (counted_all no_tally (map marked bs)) (bad_from r some u)
+
 -- ---- 12 CANNOT OCCUR
 
 pub twelve_never : (b : List ℕ) → (answer_code (marked (own_bytes b)).answer).number ≡ 12 → ⊥
@@ -217,7 +254,7 @@ unfolding is_early
 twelve_never b e = go (is_usable (two_in b)) refl (dec_le (own_length b) (length b))
   where
     found : NoSheet b → ⊥
-    found h = subst T (sym (sym (ap (λ (n : ℕ). eqb n 11 || eqb n 13) e) ∙ stops_here b h)) tt
+    found h = subst T (sym (sym (ap is_stop e) ∙ stops_here b h)) tt
 
     go : (u : Bool) → is_usable (two_in b) ≡ u → Dec (own_length b ≤ length b) → ⊥
     go false k d = found (inl k)

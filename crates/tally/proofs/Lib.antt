@@ -5,4 +5,5 @@ pub mod PartLaws
 pub mod CutLaws
 pub mod StreamLaws
 pub mod FileLaws
+pub mod ReadLaws
 pub mod Cases

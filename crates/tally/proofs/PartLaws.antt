@@ -1,6 +1,6 @@
 -- The laws of a part of a file: what one sheet more makes of it; and that it does not matter where a file is cut into parts.
 -- Assumes nothing.
-use Rattle.std.specs.Prelude.{Option, Some, Ok, Err}
+use Rattle.std.specs.Prelude.{Option, Some, Err}
 use mathlib.Core.Path.{◌≡◌, refl, sym, ap, ◌∙◌}
 use mathlib.Core.Bool.{Bool, true, false, cond}
 use mathlib.Core.List.{List, [], ◌∷◌, ◌++◌, map}
@@ -9,7 +9,7 @@ use native.Mathlib.Omega.{arith}
 use native.Mathlib.Nat.{add-zero}
 use lib.Dec.{T, leb}
 use lib.IntN.{ℤ, pos, nat_abs, ◌+ℤ◌}
-use lib.ListN.{length, get_or, take, drop, length-take, length-drop}
+use lib.ListN.{length, get_or, take, drop, length-take, length-drop, drop_of_length-le}
 use lib.Seq.{take_all}
 use mir.Facts.{and_yes, leb_yes}
 use Rattle.std.specs.List.{list_all}
@@ -22,13 +22,12 @@ use Rattle.reports.specs.declared.report.Judgement.{Judgement}
 use Rattle.reports.specs.declared.report.Report.{Report}
 use Rattle.reports.specs.declared.report.Word.TheVariants.{Sound, Short}
 use Rattle.fields.specs.declared.refusal.Refusal.{Refusal}
-use Rattle.fields.specs.Order.{Answer, accepts}
+use Rattle.fields.specs.Order.{accepts}
 use Rattle.marking.specs.Marking.{marked}
 use Rattle.tally.specs.Tally.{own_length, own_bytes, after_own, stops, difference, differences_on, sum_of, least_of, most_sheets}
-use Rattle.tally.specs.Parts.{lesser, counted, with_differences, with_report, passed, is_ready, stands, reply_of, after_part, is_measured, Measured, Within}
+use Rattle.tally.specs.Parts.{lesser, counted, with_differences, with_report, passed, is_ready, leaves, reply_of, after_part, is_measured, Measured, Within}
 use Rattle.tally.specs.declared.tally.Tally.{Tally}
 use Rattle.tally.specs.declared.progress.Progress.{Progress}
-use mathlib.Core.Logic.{◌⊎◌, inl, inr}
 use Rattle.tally.proofs.TallyLaws.{sum_append, least_append, lesser_none, lesser_assoc, one_of}
 
 -- ---- the courses of a report, one by one
@@ -74,7 +73,7 @@ taken_next p ended b h e = go p.room h
     t : Tally
     t = counted p.tally (marked (own_bytes b))
 
-    last : (s : Bool) (k : ℕ) → after_part (cond s 0 k) t ended (after_own b) ≡ cond s (stands 0 t (after_own b)) (after_part k t ended (after_own b))
+    last : (s : Bool) (k : ℕ) → after_part (cond s 0 k) t ended (after_own b) ≡ cond s (leaves 0 t []) (after_part k t ended (after_own b))
     last true k = refl
     last false k = refl
 
@@ -91,15 +90,18 @@ pub sheet_taken : (p : Progress) (ended : Bool) (b : List ℕ) {k : ℕ} {sheet 
 sheet_taken p ended b h r e f g m n =
     rw (n, m, f, g, e, take_min (own_length b) b, drop_min (own_length b) b) (taken_next p ended b h r)
 
--- none is read any more
-pub taken_last : (p : Progress) (ended : Bool) (b : List ℕ) → (p.room ≡ 0) ⊎ (is_ready ended b ≡ false) → after_part p.room p.tally ended b ≡ stands p.room p.tally b
+-- none is read of what is left, for want of bytes; and none is read any more
+taken_last : (p : Progress) (ended : Bool) (b : List ℕ) → 0 < p.room → is_ready ended b ≡ false → after_part p.room p.tally ended b ≡ leaves p.room p.tally b
 unfolding after_part
-taken_last p ended b (inl e) = rw e refl
-taken_last p ended b (inr e) = go p.room
+taken_last p ended b h e = go p.room h
   where
-    go : (room : ℕ) → after_part room p.tally ended b ≡ stands room p.tally b
-    go zero = refl
-    go (suc k) = rw e refl
+    go : (room : ℕ) → 0 < room → after_part room p.tally ended b ≡ leaves room p.tally b
+    go zero h = absurd (omega arith)
+    go (suc k) h = rw e refl
+
+taken_all : (p : Progress) (ended : Bool) (b : List ℕ) → p.room ≡ 0 → after_part p.room p.tally ended b ≡ leaves p.room p.tally []
+unfolding after_part
+taken_all p ended b e = rw e refl
 
 -- ---- one judgement more, by its kind
 
@@ -118,9 +120,6 @@ unfolding counted
 refused_more t j e =
     let z : t.sum +ℤ pos 0 ≡ t.sum = omega (arith, ints) in
     rw (e, z, add-zero t.sound, add-zero t.short, lesser_none t.least) refl
-
-pub report_more : (t : Tally) (j : Judgement) → j.answer ≡ Ok tt → with_report t j.report ≡ counted t j
-report_more t j e = ap (counted t) (ap (λ (a : Answer). record { answer = a; report = j.report }) (sym e))
 
 -- ---- and it stays within bounds
 
@@ -153,6 +152,11 @@ end_of part {b} {c} {k} e s f h =
     let m : length part - length b + k ≡ length part - length c = omega (arith, n) in
     f ∙ ap (drop k) e ∙ drop-drop k (length part - length b) part ∙ ap (λ (i : ℕ). drop i part) m
 
-pub last_taken : (p : Progress) (ended : Bool) (part : List ℕ) {b : List ℕ} → b ≡ drop (length part - length b) part → (p.room ≡ 0) ⊎ (is_ready ended b ≡ false)
+pub last_taken : (p : Progress) (ended : Bool) (part : List ℕ) {b : List ℕ} → b ≡ drop (length part - length b) part → 0 < p.room → is_ready ended b ≡ false
     → reply_of (record { progress = p; used = length part - length b }) part ≡ after_part p.room p.tally ended b
-last_taken p ended part {b} e o = ap (λ (r : List ℕ). record { progress = p; rest = r }) (sym e) ∙ sym (taken_last p ended b o)
+last_taken p ended part {b} e h f = ap (λ (r : List ℕ). record { progress = p; rest = r }) (sym e) ∙ sym (taken_last p ended b h f)
+
+pub all_taken : (p : Progress) (ended : Bool) (part b : List ℕ) → p.room ≡ 0
+    → reply_of (record { progress = p; used = length part }) part ≡ after_part p.room p.tally ended b
+all_taken p ended part b e =
+    ap (λ (r : List ℕ). record { progress = p; rest = r }) (drop_of_length-le part (omega arith)) ∙ sym (taken_all p ended b e)

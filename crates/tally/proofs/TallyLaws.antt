@@ -12,6 +12,7 @@ use lib.IntN.{ℤ, ◌+ℤ◌}
 use lib.ListN.{length, length-append}
 use Rattle.std.proofs.lemmas.Int.{ints, clamps, fold-int_min_bounds, fold-int_min_reached}
 use Rattle.std.proofs.lemmas.List.Sums.{fold-append}
+use Rattle.std.proofs.lemmas.List.Concat.{flat_map-append}
 use mathlib.Core.Logic.{◌⊎◌}
 use lib.Signed.{◌≤ℤ◌}
 use Rattle.reports.specs.declared.report.Judgement.{Judgement}
@@ -53,9 +54,7 @@ count_append p [] j = omega arith
 count_append p (k ∷ js) j = omega (arith, count_append p js j)
 
 differences_append : (js : List Judgement) (j : Judgement) → differences (js ++ j ∷ []) ≡ differences js ++ differences_on j
-differences_append [] j = append-nil (differences_on j)
-differences_append (k ∷ js) j =
-    ap (λ (ds : List ℤ). differences_on k ++ ds) (differences_append js j) ∙ sym (append_assoc (differences_on k) (differences js) (differences_on j))
+differences_append js j = flat_map-append differences_on js (j ∷ []) ∙ ap (λ (ds : List ℤ). differences js ++ ds) (append-nil (differences_on j))
 
 -- ---- one judgement more
 

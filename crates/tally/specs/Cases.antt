@@ -1,4 +1,4 @@
--- Small files and their tallies, worked out by hand.
+-- Small files and their tallies, worked out by hand; and how many sheets may still be read after some bytes.
 use Rattle.std.specs.Prelude.{List, [], ◌∷◌, ◌++◌, ℕ, take, replicate, pos, negsuc, Some, None}
 use Rattle.entries.specs.Sheet.{no_anchors, blank_course}
 use Rattle.entries.specs.declared.sheet.Course.{Course}
@@ -42,6 +42,19 @@ far_below =
       count = 1;
     }
 
+-- The same of its heaviest need: twelve courses of 6,400, 76,800 of liquor. Of 13 × h × 240,000 × 1,300 / (72 × 10,000 × 50 × 1,000) the lowest is
+-- 8,652.8, and each course has a twelfth of that less than the one below it: 8,655, 7,935, 7,215, 6,490, 5,770, 5,050, 4,330, 3,610, 2,885, 2,165,
+-- 1,445 and 725 in steps of five, 56,275 in all. Each allowance is 250, and each plate a mil above it, so each difference is 1 less the need.
+abbrev pub deepest : Sheet
+deepest =
+    record {
+      tank = Some (record { diameter = 240000; level = 76800; weight = 11000; plate = 250; allowance = 0; fy = 36000; gravity = 1300 });
+      site = Some example_site;
+      anchors = Some no_anchors;
+      courses = replicate 12 (record { width = 6400; plate = 251; allowance = 250; stress = 10000; efficiency = 50 });
+      count = 12;
+    }
+
 -- the example with its water a hundredth of an inch above the shell: 37, which judging answers
 abbrev pub water_above_shell : Sheet
 water_above_shell =
@@ -65,8 +78,8 @@ mixed_file =
     ++ liquor_bytes
     ++ sheet_bytes (example_with 105 30000 no_anchors)
     ++ sheet_bytes water_above_shell
-    ++ sheet_bytes twelve_courses
     ++ sheet_bytes far_below
+    ++ sheet_bytes twelve_courses
     ++ 0 ∷ 81 ∷ example_bytes
 
 abbrev pub file_cases : List FileCase
@@ -76,10 +89,34 @@ file_cases =
     ∷ comes_to (0 ∷ []) (record { read = 1; sound = 0; short = 0; refused = 1; sum = pos 0; least = None })
     -- a cut sheet (11) after a whole one; no difference is below 62
     ∷ comes_to (example_bytes ++ take 123 example_bytes) (record { read = 2; sound = 1; short = 0; refused = 1; sum = pos 186; least = Some (pos 62) })
-    -- 186 three times, -5, 0 and 0, 2,425 of twelve courses, and -1,525
+    -- 186 three times, -5, 0 and 0, -1,525, and 2,425 of twelve courses, of which -7 is the least
     ∷ comes_to mixed_file (record { read = 10; sound = 2; short = 4; refused = 4; sum = pos 1453; least = Some (negsuc 1524) })
     -- the highest of twelve courses is the least
     ∷ comes_to (sheet_bytes twelve_courses) (record { read = 1; sound = 0; short = 1; refused = 0; sum = pos 2425; least = Some (negsuc 6) })
     -- one that is short alone, where the sum is below 0
     ∷ comes_to (sheet_bytes (source002_with 188 138)) (record { read = 1; sound = 0; short = 1; refused = 0; sum = negsuc 4; least = Some (negsuc 4) })
+    -- a sum and a least of 0, which is not none
+    ∷ comes_to (sheet_bytes (source002_with 188 0)) (record { read = 1; sound = 1; short = 0; refused = 0; sum = pos 0; least = Some (pos 0) })
+    -- a sum past 16 bits
+    ∷ comes_to (sheet_bytes deepest) (record { read = 1; sound = 0; short = 1; refused = 0; sum = negsuc 56262; least = Some (negsuc 8653) })
+    ∷ []
+
+-- While more may come: one less for each whole sheet, and none behind a length that no sheet has.
+pub record RoomCase : Type 0 where
+  pub bytes : List ℕ
+  pub room : ℕ
+
+abbrev pub leaves_room : List ℕ → ℕ → RoomCase
+leaves_room bytes room = record { bytes = bytes; room = room }
+
+abbrev pub room_cases : List RoomCase
+room_cases =
+    leaves_room [] 10000
+    ∷ leaves_room (0 ∷ []) 10000
+    ∷ leaves_room (0 ∷ 82 ∷ []) 10000
+    ∷ leaves_room (0 ∷ 81 ∷ []) 0
+    ∷ leaves_room (255 ∷ 255 ∷ []) 0
+    ∷ leaves_room (take 123 example_bytes) 10000
+    ∷ leaves_room (example_bytes ++ take 123 example_bytes) 9999
+    ∷ leaves_room (new_with 6 ++ example_bytes ++ 0 ∷ 81 ∷ 2 ∷ []) 0
     ∷ []

@@ -1,13 +1,8 @@
 -- Every file, by its bytes: whole sheets end to end, and then nothing, or bytes where no sheet can be found.
-use Rattle.std.specs.Prelude.{◌≡◌, ◌⊎◌, ◌<◌, Bool, true, false, ◌||◌, List, [], ◌∷◌, ℕ, length}
+use Rattle.std.specs.Prelude.{◌≡◌, ◌⊎◌, ◌<◌, true, false, List, [], ◌∷◌, ℕ, length}
 use Rattle.layout.specs.Numbers.{two_in}
-use Rattle.layout.specs.Header.{is_length}
-use Rattle.layout.specs.declared.version.Version.TheVariants.{One, Two}
 use Rattle.tally.specs.Tally.{own_length}
-
--- the lengths that are not 13's: 58 + 20 × n and 62 + 20 × n
-abbrev pub is_usable : ℕ → Bool
-is_usable L = is_length One L || is_length Two L
+use Rattle.tally.specs.Parts.{is_usable}
 
 pub record WholeSheet (b : List ℕ) : Type 0 where
   pub usable : is_usable (two_in b) ≡ true

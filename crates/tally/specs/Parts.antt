@@ -1,8 +1,11 @@
 -- The same, part of the file by part: how far a tally has come, and what a part adds to it.
-use Rattle.std.specs.Prelude.{Bool, true, false, cond, ◌&&◌, ◌||◌, List, [], ◌∷◌, ◌++◌, ℕ, zero, suc, ◌+◌, ◌*◌, ◌-◌, ◌≤◌, T, leb, length, take, drop, ℤ, pos, nat_abs, ◌+ℤ◌, Option, Some, None, Ok}
+use Rattle.std.specs.Prelude.{Bool, true, false, not, cond, ◌&&◌, ◌||◌, List, [], ◌∷◌, ◌++◌, ℕ, zero, suc, ◌+◌, ◌*◌, ◌-◌, ◌≤◌, T, leb, length, take, drop, ℤ, pos, nat_abs, ◌+ℤ◌, Option, Some, None, Ok}
 use Rattle.std.specs.Int.{int_min}
 use Rattle.std.specs.List.{list_all}
 use Rattle.rules.specs.Bounds.{most_required}
+use Rattle.layout.specs.Numbers.{two_in}
+use Rattle.layout.specs.Header.{is_length}
+use Rattle.layout.specs.declared.version.Version.TheVariants.{One, Two}
 use Rattle.reports.specs.declared.report.CourseLine.{CourseLine}
 use Rattle.reports.specs.declared.report.Report.{Report}
 use Rattle.reports.specs.declared.report.Judgement.{Judgement}
@@ -33,7 +36,7 @@ counted t j =
       least = lesser t.least (least_of (differences_on j));
     }
 
--- with the differences of a report, and with the report
+-- the differences of a report added, and the report counted with them
 abbrev pub with_differences : Tally → List ℤ → Tally
 with_differences t ds = record t { sum = t.sum +ℤ sum_of ds; least = lesser t.least (least_of ds) }
 
@@ -51,27 +54,37 @@ start = record { tally = no_tally; room = most_sheets }
 abbrev pub passed : Progress → Judgement → Progress
 passed p j = record { tally = counted p.tally j; room = cond (stops j) 0 (p.room - 1) }
 
--- A part of the file: whether a sheet that begins here is read now, since it is whole or nothing comes after the part; and after all those
--- that are, how far the tally has come, and what is left of the part.
+-- the lengths that are not 13's: 58 + 20 × n and 62 + 20 × n
+abbrev pub is_usable : ℕ → Bool
+is_usable L = is_length One L || is_length Two L
+
+-- a length that is there, and that no sheet has
+abbrev pub has_bad_length : List ℕ → Bool
+has_bad_length b = leb 2 (length b) && not (is_usable (two_in b))
+
+-- A part of the file: whether a sheet that begins here is read now, since it is whole, or is 13 whatever its bytes, or nothing comes after the
+-- part; and after all those that are, how far the tally has come, and what is left of the part: nothing, where no sheet is read any more.
 abbrev pub is_ready : Bool → List ℕ → Bool
 is_ready ended [] = false
-is_ready ended (x ∷ xs) = ended || leb (own_length (x ∷ xs)) (length (x ∷ xs))
+is_ready ended (x ∷ xs) =
+    let b = x ∷ xs in
+    ended || leb (own_length b) (length b) || has_bad_length b
 
 pub record AfterPart : Type 0 where
   pub progress : Progress
   pub rest : List ℕ
 
-abbrev pub stands : ℕ → Tally → List ℕ → AfterPart
-stands room t b = record { progress = record { tally = t; room = room }; rest = b }
+abbrev pub leaves : ℕ → Tally → List ℕ → AfterPart
+leaves room t b = record { progress = record { tally = t; room = room }; rest = b }
 
 unfoldable pub after_part : ℕ → Tally → Bool → List ℕ → AfterPart
-after_part zero t ended b = stands 0 t b
+after_part zero t ended b = leaves 0 t []
 after_part (suc room) t ended b =
     let j = marked (own_bytes b) in
     cond
     (is_ready ended b)
-    (cond (stops j) (stands 0 (counted t j) (after_own b)) (after_part room (counted t j) ended (after_own b)))
-    (stands (suc room) t b)
+    (cond (stops j) (leaves 0 (counted t j) []) (after_part room (counted t j) ended (after_own b)))
+    (leaves (suc room) t b)
 
 abbrev pub reply_of : Taken → List ℕ → AfterPart
 reply_of y part = record { progress = y.progress; rest = drop y.used part }
@@ -82,7 +95,7 @@ over_parts p held [] = (after_part p.room p.tally true held).progress.tally
 over_parts p held (part ∷ parts) =
     let l = after_part p.room p.tally false (held ++ part) in over_parts l.progress l.rest parts
 
--- ---- that no figure of it leaves the machine's numbers: of twelve courses a sheet, each line is at most 8,905 from its plate
+-- ---- that no figure of it leaves the machine's numbers: of a sheet's twelve courses at most, each plate and each required plate is at most 8,905
 
 abbrev pub is_measured : CourseLine → Bool
 is_measured line = leb line.required most_required && leb line.plate most_required

@@ -1,8 +1,7 @@
 -- The season's tally: document 02, S-11 ("one report over a file of up to 10,000 sheets end to end").
-use Rattle.std.specs.Prelude.{Bool, true, false, not, cond, ◌&&◌, ◌||◌, List, [], ◌∷◌, ◌++◌, map, ℕ, zero, suc, ◌+◌, ◌≡◌, eqb, length, take, drop, ℤ, pos, ◌+ℤ◌, ◌-ℤ◌, Option, Some, None}
+use Rattle.std.specs.Prelude.{Bool, true, false, not, cond, ◌&&◌, ◌||◌, List, [], ◌∷◌, map, ℕ, zero, suc, ◌+◌, ◌≡◌, eqb, length, take, drop, ℤ, pos, ◌+ℤ◌, ◌-ℤ◌, Option, Some, None}
 use Rattle.std.specs.Int.{int_min}
-use Rattle.std.specs.List.{fold}
-use Rattle.fields.specs.declared.refusal.Code.{Code}
+use Rattle.std.specs.List.{fold, flat_map}
 use Rattle.fields.specs.Order.{accepts, answer_code}
 use Rattle.layout.specs.Numbers.{two_in}
 use Rattle.reports.specs.declared.report.CourseLine.{CourseLine}
@@ -25,11 +24,11 @@ abbrev pub after_own : List ℕ → List ℕ
 after_own b = drop (own_length b) b
 
 -- "at 11 or 13 it counts one refused and stops"
-abbrev pub is_stop : Code → Bool
-is_stop p = eqb p.number 11 || eqb p.number 13
+abbrev pub is_stop : ℕ → Bool
+is_stop number = eqb number 11 || eqb number 13
 
 abbrev pub stops : Judgement → Bool
-stops j = is_stop (answer_code j.answer)
+stops j = is_stop (answer_code j.answer).number
 
 -- Each sheet in turn is marked by its own bytes, as the marker would, until `room` of them have been read. "A file that ends where a sheet
 -- would begin ends there, with no refusal"; "after a refused sheet whose length was usable it goes on at the next length".
@@ -76,8 +75,7 @@ abbrev pub differences_on : Judgement → List ℤ
 differences_on j = cond (accepts j.answer) (map difference (take j.report.count j.report.lines)) []
 
 abbrev pub differences : List Judgement → List ℤ
-differences [] = []
-differences (j ∷ js) = differences_on j ++ differences js
+differences = flat_map differences_on
 
 abbrev pub sum_of : List ℤ → ℤ
 sum_of [] = pos 0

@@ -1,9 +1,10 @@
 // How far a tally has come, and a part of the file more.
 ghost use Rattle.std.specs.Prelude.{◌≡◌, ◌≤◌, ◌<◌, ◌+◌, length, false};
 ghost use Rattle.tally.specs.Tally.{own_length, stops, tallied, AddsUp};
-ghost use Rattle.tally.specs.Parts.{start, passed, is_ready, after_part, reply_of, Within, Measured};
+ghost use Rattle.tally.specs.Parts.{start, passed, is_ready, has_bad_length, after_part, reply_of, Within, Measured};
 
 use crate::tally::Tally;
+use layout::reading;
 use reports::report::Judgement;
 
 // "A file of up to 10,000 sheets".
@@ -41,7 +42,8 @@ impl Progress {
         }
     }
 
-    // The sheets of a part of the file that are whole; where nothing comes after it, the last one however cut.
+    // The sheets of a part of the file that are whole; where nothing comes after it, the last one however cut. A length that no sheet has
+    // ends it at once, whatever comes.
     pub(crate) fn take(self, part: &[u8], ended: bool) -> Taken
         requires { Within self }
         ensures within { Within result.progress }
@@ -56,6 +58,12 @@ impl Progress {
             let judgement = marking::judge_bytes(sheet);
             progress = progress.passed(&judgement);
             rest = after;
+        }
+        if progress.room == 0 {
+            return Taken {
+                progress,
+                used: part.len(),
+            };
         }
         Taken {
             progress,
@@ -105,7 +113,20 @@ fn is_ready(rest: &[u8], ended: bool) -> bool
     ensures value { result ≡ is_ready ended rest.now }
     ensures short { ended ≡ false → result ≡ false → length rest.now ≤ 65536 }
 {
-    !rest.is_empty() && (ended || own_length(rest) <= rest.len())
+    !rest.is_empty() && (ended || own_length(rest) <= rest.len() || has_bad_length(rest))
+}
+
+// A length by itself is 13 where no sheet has it, and else 11.
+fn has_bad_length(rest: &[u8]) -> bool
+    ensures { result ≡ has_bad_length rest.now }
+{
+    if rest.len() < 2 {
+        return false;
+    }
+    match reading::version_in(&rest[..2]) {
+        Ok(_) => false,
+        Err(refusal) => refusal.code().number == BAD_LENGTH,
+    }
 }
 
 // 2 + L, of as much of L as is there.

@@ -1,6 +1,6 @@
 // The tally of a file that comes by a reader, in a buffer that does not grow with the file.
 ghost use Rattle.std.specs.Prelude.{◌≡◌, ◌≤◌, ◌<◌, ◌-◌, length, take, drop};
-ghost use Rattle.tally.specs.Stream.{ReadBehind, TallyOf};
+ghost use Rattle.tally.specs.Stream.{one_buffer, ReadBehind, TallyOf};
 
 use crate::progress::Progress;
 use crate::tally::Tally;
@@ -8,22 +8,21 @@ use input::zeros;
 use std::io;
 use std::io::Read;
 
-// A sheet has at most 65,537 bytes, by its two of length, so a full buffer has a whole one.
+// More than 2 + L bytes for any L, so a full buffer holds a whole sheet or a length that no sheet has.
 const ROOM: usize = 131072;
 
 // The tally of all that the reader gives. A read that fails is passed on: the tally of a part does not pass for that of the whole.
 pub fn of_input<R: Read>(input: &mut R) -> io::Result<Tally>
-    ensures { TallyOf (R.remaining input.old) (R.remaining input.new) result }
+    ensures { TallyOf one_buffer (R.remaining input.old) (R.remaining input.new) result }
 {
     let mut buffer: [u8; ROOM] = zeros();
     read_all(input, &mut buffer)
 }
 
-// Takes what each read brings, so that nothing is waited for once the last sheet is there. (A length that no sheet has is one of 65,537
-// bytes at the most here, too: it is refused when they are there, or the input ends.)
+// Takes what each read brings, so that nothing is waited for once the last sheet is there, or a length that no sheet has.
 fn read_all<R: Read>(input: &mut R, buffer: &mut [u8]) -> io::Result<Tally>
     requires { 65538 ≤ length buffer.old }
-    ensures { TallyOf (R.remaining input.old) (R.remaining input.new) result }
+    ensures { TallyOf (length buffer.old) (R.remaining input.old) (R.remaining input.new) result }
 {
     let mut progress = Progress::start();
     let mut held: usize = 0;

@@ -1,4 +1,4 @@
--- Tallies and their text, to the letter: one below 0, one above, and one without a judged course.
+-- Tallies and their text, to the letter: one below 0, one above, one of 0, and one without a judged course.
 use Rattle.std.specs.Prelude.{List, [], ◌∷◌, ℕ, pos, negsuc, Some, None}
 use Rattle.lists.specs.Ascii.{ascii}
 use Rattle.tally.specs.declared.tally.Tally.{Tally}
@@ -16,6 +16,10 @@ text_cases =
     ∷ record {
       tally = record { read = 12; sound = 10; short = 0; refused = 2; sum = pos 186; least = Some (pos 5) };
       text = ascii "read 12\nsound 10\nshort 0\nrefused 2\nsum 186\nleast 5\n";
+    }
+    ∷ record {
+      tally = record { read = 1; sound = 1; short = 0; refused = 0; sum = pos 0; least = Some (pos 0) };
+      text = ascii "read 1\nsound 1\nshort 0\nrefused 0\nsum 0\nleast 0\n";
     }
     ∷ record {
       tally = record { read = 0; sound = 0; short = 0; refused = 0; sum = pos 0; least = None };

@@ -10,7 +10,7 @@ invariant-loop-progress g l = record {
   size : length l.buffer ≡ length l.initial.buffer;
   inside : l.held ≤ length l.buffer;
   short : 0 < l.progress.room → l.held ≤ 65536;
-  so_far : SoFar (g.R.Read.remaining l.initial.input) (g.R.Read.remaining l.input) l.progress (take l.held l.buffer);
+  so_far : SoFar (length l.initial.buffer) (g.R.Read.remaining l.initial.input) (g.R.Read.remaining l.input) l.progress (take l.held l.buffer);
 }
 
 abbrev pub decreases-loop-progress : goal.decreases-loop-progress

@@ -1,11 +1,10 @@
 -- `tally::progress::Progress::take` meets its contract. Assumes nothing.
 use mathlib.Core.Path.{sym, ap, ◌∙◌}
-use mathlib.Core.Logic.{inl, inr}
 use Prim.Native.Nat.{ℕ, min}
 use native.Mathlib.Omega.{arith}
 use lib.ListN.{length}
 use Rattle.tally.proofs.MeasuredLaws.{marked_measured}
-use Rattle.tally.proofs.PartLaws.{passed_within, sheet_taken, last_taken, end_of}
+use Rattle.tally.proofs.PartLaws.{passed_within, sheet_taken, last_taken, all_taken, end_of}
 use Rattle.tally.proofs.progress.Progress.take.Goals.{then-loop-progress-test+else-is_ready, else-loop-progress-test}
 use Rattle.tally.proofs.progress.Progress.take.Goals as goal
 
@@ -27,10 +26,15 @@ loop-progress-preserved c =
           ∙ i.value;
     }
 
+pub returns-then-progress-eq0-clause-value : goal.returns-then-progress-eq0-clause-value
+returns-then-progress-eq0-clause-value c =
+    let l = c.loop-progress in
+    all_taken l.progress c.args.ended c.args.part.now l.rest.now (omega arith) ∙ l.invariant.value
+
 pub returns-clause-value : goal.returns-clause-value
 returns-clause-value c =
     let i = c.loop-progress.invariant in
     elim c.loop-progress-test.branch [
-      | then-loop-progress-test+else-is_ready w ↦ last_taken c.loop-progress.progress c.args.ended c.args.part.now i.rest (inr (sym w.is_ready.ensures.value ∙ w.if-is_ready.false)) ∙ i.value
-      | else-loop-progress-test w ↦ last_taken c.loop-progress.progress c.args.ended c.args.part.now i.rest (inl (omega arith)) ∙ i.value
+      | then-loop-progress-test+else-is_ready w ↦ last_taken c.loop-progress.progress c.args.ended c.args.part.now i.rest (omega arith) (sym w.is_ready.ensures.value ∙ w.if-is_ready.false) ∙ i.value
+      | else-loop-progress-test w ↦ absurd (omega arith)
     ]

@@ -4,7 +4,6 @@ use native.Mathlib.Omega.{arith}
 use lib.IntN.{ℤ}
 use Rattle.std.specs.Prelude.{Some}
 use Rattle.std.proofs.lemmas.Int.{ints}
-use Rattle.tally.specs.Tally.{}
 use Rattle.tally.specs.Parts.{lesser}
 use Rattle.tally.proofs.PartLaws.{sum_more, least_more, one_bounded, sum_bounded}
 use Rattle.tally.proofs.tally.Tally.with_lines.Goals as goal
