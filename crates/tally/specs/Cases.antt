@@ -3,10 +3,10 @@ use Rattle.std.specs.Prelude.{List, [], ◌∷◌, ◌++◌, ℕ, take, replicat
 use Rattle.entries.specs.Sheet.{no_anchors, blank_course}
 use Rattle.entries.specs.declared.sheet.Course.{Course}
 use Rattle.entries.specs.declared.sheet.Sheet.{Sheet}
-use Rattle.layout.specs.Cases.{example_site, example_anchors, example_courses, example_bytes, old_with, new_with, liquor_bytes}
+use Rattle.layout.specs.Cases.{example_site, example_anchors, example_bytes, old_with, new_with, liquor_bytes}
 use Rattle.sheet.specs.Complete.{entries_of}
 use Rattle.sheet.specs.Writing.{bytes_of}
-use Rattle.claims.specs.Cases.{example_with, source002_with}
+use Rattle.claims.specs.Cases.{example_with, example_above, source002_with}
 use Rattle.tally.specs.declared.tally.Tally.{Tally}
 
 pub record FileCase : Type 0 where
@@ -31,40 +31,27 @@ twelve_courses =
       count = 12;
     }
 
--- The widest tank of the heaviest liquor: 13 × 14,400 × 240,000 × 1,300 / (72 × 10,000 × 50 × 1,000) is 1,622.4, so 1,625 are required.
+-- the widest tank of the heaviest liquor, with a level and courses of one's own
+abbrev pub widest : ℕ → List Course → ℕ → Sheet
+widest level courses count =
+    record {
+      tank = Some (record { diameter = 240000; level = level; weight = 11000; plate = 250; allowance = 0; fy = 36000; gravity = 1300 });
+      site = Some example_site;
+      anchors = Some no_anchors;
+      courses = courses;
+      count = count;
+    }
+
+-- 13 × 14,400 × 240,000 × 1,300 / (72 × 10,000 × 50 × 1,000) is 1,622.4, so 1,625 are required.
 abbrev pub far_below : Sheet
 far_below =
-    record {
-      tank = Some (record { diameter = 240000; level = 14400; weight = 11000; plate = 250; allowance = 0; fy = 36000; gravity = 1300 });
-      site = Some example_site;
-      anchors = Some no_anchors;
-      courses = record { width = 14400; plate = 100; allowance = 0; stress = 10000; efficiency = 50 } ∷ replicate 11 blank_course;
-      count = 1;
-    }
+    widest 14400 (record { width = 14400; plate = 100; allowance = 0; stress = 10000; efficiency = 50 } ∷ replicate 11 blank_course) 1
 
--- The same of its heaviest need: twelve courses of 6,400, 76,800 of liquor. Of 13 × h × 240,000 × 1,300 / (72 × 10,000 × 50 × 1,000) the lowest is
--- 8,652.8, and each course has a twelfth of that less than the one below it: 8,655, 7,935, 7,215, 6,490, 5,770, 5,050, 4,330, 3,610, 2,885, 2,165,
--- 1,445 and 725 in steps of five, 56,275 in all. Each allowance is 250, and each plate a mil above it, so each difference is 1 less the need.
+-- Of its heaviest need: twelve courses of 6,400 under 76,800. By the same rule the lowest is 8,652.8, and each course has a twelfth of that less
+-- than the one below it: 8,655, 7,935, 7,215, 6,490, 5,770, 5,050, 4,330, 3,610, 2,885, 2,165, 1,445 and 725 in steps of five, 56,275 in all. Each
+-- allowance is 250, and each plate a mil above it, so each difference is 1 less the need.
 abbrev pub deepest : Sheet
-deepest =
-    record {
-      tank = Some (record { diameter = 240000; level = 76800; weight = 11000; plate = 250; allowance = 0; fy = 36000; gravity = 1300 });
-      site = Some example_site;
-      anchors = Some no_anchors;
-      courses = replicate 12 (record { width = 6400; plate = 251; allowance = 250; stress = 10000; efficiency = 50 });
-      count = 12;
-    }
-
--- the example with its water a hundredth of an inch above the shell: 37, which judging answers
-abbrev pub water_above_shell : Sheet
-water_above_shell =
-    record {
-      tank = Some (record { diameter = 14400; level = 28801; weight = 11000; plate = 250; allowance = 0; fy = 36000; gravity = 1000 });
-      site = Some example_site;
-      anchors = Some example_anchors;
-      courses = example_courses ++ replicate 9 blank_course;
-      count = 3;
-    }
+deepest = widest 76800 (replicate 12 (record { width = 6400; plate = 251; allowance = 250; stress = 10000; efficiency = 50 })) 12
 
 -- Three courses of 250 where 188 is required, by either version: 62 each. With liquor in it the same, since the floor is required. Size 6 is
 -- refused in version 2 alone (39), a wind of 59 is (16), and so is water above the shell (37). Of the four that are short one is so by its first
@@ -77,7 +64,7 @@ mixed_file =
     ++ sheet_bytes (example_with 59 30000 no_anchors)
     ++ liquor_bytes
     ++ sheet_bytes (example_with 105 30000 no_anchors)
-    ++ sheet_bytes water_above_shell
+    ++ sheet_bytes example_above
     ++ sheet_bytes far_below
     ++ sheet_bytes twelve_courses
     ++ 0 ∷ 81 ∷ example_bytes
